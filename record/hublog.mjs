@@ -1,12 +1,30 @@
-// Records what a program puts and gets, on Node or in a browser, as logs of docs/FORMATS.md.
+// Records what a program puts and gets, on Node or in a browser, as logs of docs/FORMATS.md: by a
+// `Recorder`, which a hub of your own calls at its ends, or by classes in place of those of Node or
+// the page. These classes test Node's own hub, or the browser's, and not one that is built over it:
+// where a broker loses what it should pass on, each hop of its ports is still right. What is wrong
+// in the logs says `tools/report logs`.
+//
+// The recorder of a hub of your own has the calls of record/hublog.py:
+//
+//   import { Recorder } from './record/hublog.mjs';
+//   const log = new Recorder('logs/agent-1.log', 1);          // in place of the path: (text) => ..
+//   log.put(17, 0, 0, number, [], body);                      // accepted at end 17, as 0:number
+//   log.putting(17, 0, 0, number, [], body, () => push(..));  // taken back where that throws
+//   log.got(17, 0, 0, number, [], body);                      // by the name that travelled with it
+//   log.adopted(17, 1); log.closed(17); log.putNotice(..); log.gotNotice(..); log.finish();
+//
+// Each agent has a log of its own, in the order in which it acts: `got` before the message is used,
+// `put` directly before the hand-over. Where a function takes the text, which can't be taken back,
+// `putting` writes it directly behind. That is as good, where the hand-over doesn't itself deliver:
+// logs are compared by names, and not by time.
+//
+// The classes in place of others:
 //
 //   import { record } from './record/hublog.mjs';
 //   const { MessageChannel, Worker, BroadcastChannel, receiveMessageOnPort } =
 //     record({ folder: 'logs' });                            // the main thread of Node
 //   const { parentPort, workerData } = record();             // a worker that this Worker began
 //   const hub = record({ agent: 1, sink: (text) => .. });    // a page or a worker of a browser
-//
-// `record/merge logs > run.log` joins the logs of the agents for `messagehub check`.
 //
 // Node: use what `record` gives in place of what node:worker_threads gives. Each thread is an
 // agent. Its file in the folder gets each entry before the call goes on. A channel's `port1` and
@@ -20,7 +38,7 @@
 // before other listeners are added. One route leads from an agent to another one. `hub.end()` ends
 // the log: later posts are refused, and what comes later isn't logged.
 //
-// How it is logged:
+// How these classes log:
 // - End A below 16 is the queue of agent A, and its line L is what agent L posts there; workerData
 //   is the first message on it. The other ends are ports and broadcast channels.
 // - The name of a message travels with it: the body is wrapped, and a receiver never counts. Each
@@ -40,13 +58,15 @@
 // drop; environment data; ports that are moved to another context; what agents without a recorder
 // post, which is passed on as it is. What can't be recorded is refused by an error whose `code`
 // says why: NoNode, NoFolder, NoAgent, NoSink, LogExists, TooManyAgents, TooManyEnds, TooManyLines,
-// TooDeep, UnknownPort, Ended.
+// TooDeep, UnknownPort, Ended; those of a Recorder are BadAgent, BadEnd, BadLine, BadEpoch,
+// BadNumber, BadPorts, PutTwice, ClosedTwice and Finished.
 
 const MOST_AGENTS = 16;
 const MOST_ENDS = 65_536;
 const ENDS_OF_AGENT = (MOST_ENDS - MOST_AGENTS) / MOST_AGENTS;
 const MOST_LINES = 32;
 const MOST_PORTS = 16;
+const MOST_NUMBER = 2n ** 62n - 1n;
 const MOST_BYTES = 262_144;
 const MOST_NESTING = 64;
 // What is nested more is refused, before the stack is full.
@@ -188,6 +208,13 @@ class BodyWriter {
   }
 }
 
+function bodyText(body) {
+  const writer = new BodyWriter([]);
+  const text = writer.value(body, 0);
+  const bytes = encoder.encode(text);
+  return writer.isBody && bytes.length <= MOST_BYTES ? text : digestOf(bytes);
+}
+
 /** `LIST BODY` of an entry. The states are those of the ports, null of one that was sent. */
 function contentOf(body, ports, states) {
   const ends = states.filter(Boolean).map((state) => state.end);
@@ -281,6 +308,112 @@ function headOf(agent) {
   return `hublog 3\nagent ${agent}\n`;
 }
 
+// The recorder of a hub of one's own
+
+function within(code, value, behind) {
+  if (Number.isInteger(value) && value >= 0 && value < behind) return value;
+  throw new RecordError(code, `${String(value)} is no number below ${behind}`);
+}
+
+/** `E L EP:N` of an entry. The number of a message may be a bigint. */
+function placeText(end, line, epoch, number) {
+  const isNumber = typeof number === 'bigint' || Number.isSafeInteger(number);
+  if (!isNumber || number < 0 || number > MOST_NUMBER) {
+    throw new RecordError('BadNumber', `${String(number)} is no number below 2^62`);
+  }
+  within('BadEnd', end, MOST_ENDS);
+  within('BadLine', line, MOST_LINES);
+  return `${end} ${line} ${within('BadEpoch', epoch, MOST_ENDS)}:${number}`;
+}
+
+/** `LIST BODY` of an entry. */
+function listedContent(ports, body) {
+  const isList = Array.isArray(ports) && ports.length <= MOST_PORTS
+    && new Set(ports).size === ports.length;
+  if (!isList) throw new RecordError('BadPorts', `no list of at most ${MOST_PORTS} ends`);
+  ports.forEach((port) => within('BadPorts', port, MOST_ENDS));
+  return `${ports.join(',') || '-'} ${bodyText(body)}`;
+}
+
+/** The log of one agent. Each call writes one entry. */
+export class Recorder {
+  // `where` is the path of a new file on Node, or a function that takes the text piece by piece.
+  constructor(where, agent) {
+    within('BadAgent', agent, MOST_AGENTS);
+    const isSink = typeof where === 'function';
+    this.journal = isSink ? new SinkJournal(where) : new FileJournal(where, builtins().fs, true);
+    this.isFinished = false;
+    this.names = new Set();
+    this.closedEnds = new Set();
+    this.write(headOf(agent));
+  }
+
+  /** A message was accepted on a line of an end, under the name `epoch:number`. */
+  put(end, line, epoch, number, ports, body) {
+    this.putting(end, line, epoch, number, ports, body, () => {});
+  }
+
+  /** A put with its hand-over, `act`. Where that throws, nothing was accepted or logged. */
+  putting(end, line, epoch, number, ports, body, act) {
+    const place = placeText(end, line, epoch, number);
+    return this.writePut(place, listedContent(ports, body), act);
+  }
+
+  /** A message was delivered, under the name that travelled with it. */
+  got(end, line, epoch, number, ports, body) {
+    const place = placeText(end, line, epoch, number);
+    this.write(`got ${place} ${listedContent(ports, body)}\n`);
+  }
+
+  /** The last message of a line was accepted: it says that nothing more comes there. */
+  putNotice(end, line, epoch, number) {
+    this.writePut(placeText(end, line, epoch, number), 'notice', () => {});
+  }
+
+  /** The last message of a line was delivered. */
+  gotNotice(end, line, epoch, number) {
+    this.write(`got ${placeText(end, line, epoch, number)} notice\n`);
+  }
+
+  /** The agent adopted an end, whose newest queue is `epoch`. */
+  adopted(end, epoch) {
+    within('BadEnd', end, MOST_ENDS);
+    this.write(`adopted ${end} ${within('BadEpoch', epoch, MOST_ENDS)}\n`);
+  }
+
+  /** The agent closed an end. */
+  closed(end) {
+    if (this.closedEnds.has(within('BadEnd', end, MOST_ENDS))) {
+      throw new RecordError('ClosedTwice', `end ${end}`);
+    }
+    this.write(`closed ${end}\n`);
+    this.closedEnds.add(end);
+  }
+
+  /** Writes the last line: the log is whole. More calls of it do nothing. */
+  finish() {
+    if (!this.isFinished) this.journal.end();
+    this.isFinished = true;
+  }
+
+  writePut(place, content, act) {
+    this.refuseFinished();
+    if (this.names.has(place)) throw new RecordError('PutTwice', place);
+    const given = this.journal.writeAround(`put ${place} ${content}\n`, act);
+    this.names.add(place);
+    return given;
+  }
+
+  write(text) {
+    this.refuseFinished();
+    this.journal.write(text);
+  }
+
+  refuseFinished() {
+    if (this.isFinished) throw new RecordError('Finished', 'the log is finished');
+  }
+}
+
 // Names
 
 /** The right to post at an end, and how many messages were posted by it. */
@@ -318,8 +451,8 @@ function transferOf(options) {
   return { given, list: isIterable ? given : [...(options?.transfer ?? [])] };
 }
 
-/** The recorder of one agent. `nextEnd` gives it the number of a new end. */
-class Recorder {
+/** What the classes of one agent share. `nextEnd` gives it the number of a new end. */
+class PortRecorder {
   constructor(agent, journal, nextEnd, MessagePort) {
     Object.assign(this, { agent, journal, nextEnd, MessagePort });
     this.hasDispatch = DISPATCH in MessagePort.prototype;
@@ -547,7 +680,7 @@ class Process {
 
   recorderOf(agent) {
     const { MessagePort } = this.node.threads;
-    return new Recorder(agent, this.journalOf(agent), () => this.nextEnd(), MessagePort);
+    return new PortRecorder(agent, this.journalOf(agent), () => this.nextEnd(), MessagePort);
   }
 }
 
@@ -641,7 +774,7 @@ function recordInBrowser({ agent, sink }) {
     count += 1;
     return first + count - 1;
   };
-  const recorder = new Recorder(agent, new SinkJournal(sink), nextEnd, globalThis.MessagePort);
+  const recorder = new PortRecorder(agent, new SinkJournal(sink), nextEnd, globalThis.MessagePort);
   const hub = classesFor(recorder, globalThis);
   sink(headOf(agent));
   hub.to = (target, to, settings = {}) => ({

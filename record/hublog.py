@@ -8,19 +8,28 @@
         log.got(1, 0, 0, 0, [], {"count": 1})     # delivered under the name that travelled with it
         log.closed(1)
 
-`record/merge logs > run.log` joins them for `messagehub check`. Each agent has a file of its own,
-which must be new. An entry is in the file before the call returns: call `put` before the message is
-handed over, and `got` before it is used. The name of a message has to travel with it: a receiver
-that counts can't see a drop. A hub without epochs has epoch 0 in every name; its lines count over
-their whole life, and `adopted(end, count)` says how often the end has moved.
+`tools/report logs` says whether the hub is right. Each agent has a file of its own, which must be
+new, and an entry is in it before the call returns. The log of an agent is in the order in which it
+acts: `got` comes before the message is used, and `put` directly before the hand-over. Where a
+hand-over can be refused, as by a full queue, it stands within `putting`, which takes the entry back
+where that raises an error:
+
+    with log.putting(1, 0, 0, number, [], body):
+        waiting.put_nowait((number, body))        # queue.Full: nothing was accepted or logged
+
+A `put` directly behind the hand-over is as good, where that doesn't itself deliver: logs are
+compared by names, and not by time. The name of a message has to travel with it: a receiver that
+counts can't see a drop. A hub without epochs has epoch 0 in every name; its lines count over their
+whole life, and `adopted(end, count)` says how often the end has moved.
 
 The block's end, or `finish`, writes the last line, by which record/merge sees that the log is
 whole. A body past the limits of docs/FORMATS.md (fractions, numbers of more than 64 bits, more than
 64 levels, too many bytes, halves of a surrogate pair) is written as `digest` of its text. Other
 wrong arguments raise Refused, whose `kind` says why, and nothing is written: BadAgent, BadEnd,
-BadLine, BadEpoch, BadNumber, BadPorts, NotJson, ClosedTwice, Finished.
+BadLine, BadEpoch, BadNumber, BadPorts, NotJson, PutTwice, ClosedTwice, Finished.
 """
 
+import contextlib
 import json
 import reprlib
 
@@ -137,8 +146,8 @@ class Recorder:
     def __init__(self, path, agent):
         number("BadAgent", agent, MOST_AGENT)
         # Without a buffer, what a call writes is in the file when it returns.
-        self.file = open(path, "xb", buffering=0)
-        self.ended = set()
+        self.file, self.size = open(path, "xb", buffering=0), 0
+        self.names, self.ended = set(), set()
         self.write(f"hublog 3\nagent {agent}")
 
     def __enter__(self):
@@ -150,7 +159,23 @@ class Recorder:
     def put(self, end, line, epoch, count, ports, body):
         """A message was accepted on a line of an end, under the name `epoch:count`."""
         place = place_text(end, line, epoch, count)
-        self.write(f"put {place} {ports_text(ports)} {body_text(body)}")
+        self.write_put(place, f"{ports_text(ports)} {body_text(body)}")
+
+    @contextlib.contextmanager
+    def putting(self, end, line, epoch, count, ports, body):
+        """A put round the hand-over, which is taken back where that raises an error."""
+        size = self.size
+        self.put(end, line, epoch, count, ports, body)
+        behind = self.size
+        try:
+            yield
+        except BaseException:
+            # An entry that was written meanwhile stays, and so does the put before it.
+            if self.size == behind and not self.file.closed:
+                self.file.truncate(self.file.seek(size))
+                self.size = size
+                self.names.discard(place_text(end, line, epoch, count))
+            raise
 
     def got(self, end, line, epoch, count, ports, body):
         """A message was delivered, under the name that travelled with it."""
@@ -159,7 +184,7 @@ class Recorder:
 
     def put_notice(self, end, line, epoch, count):
         """The last message of a line was accepted: it says that nothing more comes there."""
-        self.write(f"put {place_text(end, line, epoch, count)} notice")
+        self.write_put(place_text(end, line, epoch, count), "notice")
 
     def got_notice(self, end, line, epoch, count):
         """The last message of a line was delivered."""
@@ -183,9 +208,16 @@ class Recorder:
             self.write("deliveries")
             self.file.close()
 
+    def write_put(self, place, content):
+        if place in self.names:
+            raise Refused("PutTwice", place)
+        self.write(f"put {place} {content}")
+        self.names.add(place)
+
     def write(self, line):
         if self.file.closed:
             raise Refused("Finished", line)
         rest = memoryview(f"{line}\n".encode())
+        self.size += len(rest)
         while rest:
             rest = rest[self.file.write(rest) :]

@@ -10,12 +10,22 @@
 //! receiver.finish()?;
 //! ```
 //!
-//! `record/merge logs > run.log` joins them for `messagehub check`. This file is a module of the
-//! hub and needs `std` alone. Each agent has a file of its own, which must be new. An entry is in
-//! the file before the call returns: call `put` before the message is handed over, and `got` before
-//! it is used. The name of a message has to travel with it: a receiver that counts can't see a
-//! drop. A hub without epochs has epoch 0 in every name; its lines count over their whole life, and
-//! `adopted(end, count)` says how often the end has moved.
+//! `tools/report logs` says whether the hub is right. This file is a module of the hub and needs
+//! `std` alone. Each agent has a file of its own, which must be new, and an entry is in it before
+//! the call returns. The log of an agent is in the order in which it acts: `got` comes before the
+//! message is used, and `put` directly before the hand-over. Where that can be refused, as by a
+//! full channel, it stands behind `putting`, whose guard takes the entry back unless it is kept:
+//!
+//! ```ignore
+//! let putting = sender.putting(1, 0, 0, number, &[], body)?;
+//! channel.try_send((number, body))?; // full: nothing was accepted or logged
+//! putting.keep();
+//! ```
+//!
+//! A `put` directly behind the hand-over is as good, where that doesn't itself deliver: logs are
+//! compared by names, and not by time. The name of a message has to travel with it: a receiver that
+//! counts can't see a drop. A hub without epochs has epoch 0 in every name; its lines count over
+//! their whole life, and `adopted(end, count)` says how often the end has moved.
 //!
 //! `finish` writes the last line, by which record/merge sees that the log is whole. A body is a
 //! JSON text, which is written without white space between its parts. One past the limits of
@@ -29,7 +39,7 @@
 use std::collections::BTreeSet;
 use std::fmt;
 use std::fs::{File, OpenOptions};
-use std::io::{self, Write};
+use std::io::{self, Seek, SeekFrom, Write};
 use std::path::Path;
 
 const MOST_AGENT: u32 = 15;
@@ -51,6 +61,7 @@ pub enum Refusal {
     BadNumber,
     BadPorts,
     NotJson,
+    PutTwice,
     ClosedTwice,
     Finished,
     /// The file couldn't be made or written.
@@ -78,6 +89,9 @@ impl From<io::Error> for Refusal {
 pub struct Recorder {
     /// None once the log is finished.
     file: Option<File>,
+    size: u64,
+    /// `E L EP:N` of each put.
+    names: BTreeSet<String>,
     closed: BTreeSet<u32>,
 }
 
@@ -88,6 +102,8 @@ impl Recorder {
         let file = OpenOptions::new().write(true).create_new(true).open(path)?;
         let mut recorder = Recorder {
             file: Some(file),
+            size: 0,
+            names: BTreeSet::new(),
             closed: BTreeSet::new(),
         };
         recorder.write(&format!("hublog 3\nagent {agent}"))?;
@@ -105,11 +121,29 @@ impl Recorder {
         body: &str,
     ) -> Result<(), Refusal> {
         let place = place_text(end, line, epoch, number)?;
-        self.write(&format!(
-            "put {place} {} {}",
-            ports_text(ports)?,
-            body_text(body)?
-        ))
+        let content = format!("{} {}", ports_text(ports)?, body_text(body)?);
+        self.write_put(place, &content)
+    }
+
+    /// A put before the hand-over, which is taken back unless the guard is kept.
+    pub fn putting(
+        &mut self,
+        end: u32,
+        line: u32,
+        epoch: u32,
+        number: u64,
+        ports: &[u32],
+        body: &str,
+    ) -> Result<Putting<'_>, Refusal> {
+        let place = place_text(end, line, epoch, number)?;
+        let size = self.size;
+        self.put(end, line, epoch, number, ports, body)?;
+        Ok(Putting {
+            recorder: self,
+            size,
+            place,
+            is_kept: false,
+        })
     }
 
     /// A message was delivered, under the name that travelled with it.
@@ -138,10 +172,7 @@ impl Recorder {
         epoch: u32,
         number: u64,
     ) -> Result<(), Refusal> {
-        self.write(&format!(
-            "put {} notice",
-            place_text(end, line, epoch, number)?
-        ))
+        self.write_put(place_text(end, line, epoch, number)?, "notice")
     }
 
     /// The last message of a line was delivered.
@@ -185,11 +216,59 @@ impl Recorder {
         Ok(())
     }
 
+    fn write_put(&mut self, place: String, content: &str) -> Result<(), Refusal> {
+        if self.names.contains(&place) {
+            return Err(Refusal::PutTwice);
+        }
+        self.write(&format!("put {place} {content}"))?;
+        self.names.insert(place);
+        Ok(())
+    }
+
     /// A file has no buffer, so the entry is in it when this returns.
     fn write(&mut self, line: &str) -> Result<(), Refusal> {
         let file = self.file.as_mut().ok_or(Refusal::Finished)?;
         file.write_all(format!("{line}\n").as_bytes())?;
+        self.size += line.len() as u64 + 1;
         Ok(())
+    }
+
+    fn cut_back(&mut self, size: u64) -> Result<(), Refusal> {
+        let file = self.file.as_mut().ok_or(Refusal::Finished)?;
+        file.set_len(size)?;
+        file.seek(SeekFrom::Start(size))?;
+        self.size = size;
+        Ok(())
+    }
+}
+
+/// A put whose hand-over is under way. Dropped, it takes the entry back.
+#[must_use = "a put that isn't kept is taken back"]
+pub struct Putting<'a> {
+    recorder: &'a mut Recorder,
+    /// How long the log was before the entry.
+    size: u64,
+    place: String,
+    is_kept: bool,
+}
+
+impl Putting<'_> {
+    /// The message was accepted.
+    pub fn keep(mut self) {
+        self.is_kept = true;
+    }
+}
+
+impl Drop for Putting<'_> {
+    fn drop(&mut self) {
+        if self.is_kept {
+            return;
+        }
+        self.recorder.names.remove(&self.place);
+        // Where the file refuses that, the log ends here, and is seen to be cut.
+        if self.recorder.cut_back(self.size).is_err() {
+            self.recorder.file = None;
+        }
     }
 }
 

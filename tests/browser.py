@@ -27,7 +27,7 @@ WORDS = [
 ]
 # How a key is told, besides its name.
 KEYS = {"Enter": 13, "Tab": 9, "End": 35, "Home": 36, "ArrowUp": 38, "ArrowDown": 40,
-        "ArrowLeft": 37, "ArrowRight": 39}
+        "ArrowLeft": 37, "ArrowRight": 39, "Escape": 27}
 
 
 class Refused(Exception):

@@ -1,4 +1,4 @@
-"""Reads the rows: whole inputs of a mode, with the output and the exit status that each has to give.
+"""Reads the rows: whole inputs of a mode, with the output and the status that each has to give.
 
 They stand in the files tests/rows/MODE/SUBJECT.rows, whose form CONTRIBUTING.md shows.
 """

@@ -234,6 +234,11 @@ class Benches(support.TestCase):
         self.assertIn(b"failed: stopped, not run to the end: core\n", output)
         self.assertTrue(output.endswith(LAST_LINES.format("nothing", 0, 1, 0).encode()), output)
         number = int(asked.read_text("utf-8"))
+        # Who takes in a process whose parent has ended may be late.
+        for _ in range(200):
+            if not pathlib.Path(f"/proc/{number}").exists():
+                break
+            time.sleep(0.05)
         self.assertFalse(pathlib.Path(f"/proc/{number}").exists(), "the toolchain still runs")
         self.assertEqual([it.name for it in self.folder.iterdir() if it.is_dir()], ["path"])
         self.says(1, "signal")

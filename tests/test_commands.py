@@ -21,21 +21,27 @@ WRONG = {
                   ["--jobs", "0"], ["scripts", "--built", "/nowhere/at/all"]],
     "bench/build": [[], ["/nowhere/at/all", "name"], ["/tmp/x", "name", "/nowhere", "crate"]],
     "embed/build": [["--to"], ["--to", "/tmp"], ["--to", "/dev/null"]],
-    "examples/chat.py": [[], ["/nowhere/at/all"], ["/tmp"]],
+    "examples/relay.py": [[], ["--bug", "fly", "/tmp/x"], ["/nowhere/at/all"], ["/tmp"]],
     "record/merge": [[], ["/nowhere/at/all"]],
     "tests/all": [["no-such-test"], ["--program", "/nowhere/at/all"], ["--jobs", "0"],
                   ["--program", "/"], ["--program", "/bin/true", "--folder", "/nowhere/at/all"]],
+    "tests/changed_scripts": [[], ["/nowhere/at/all"], ["--count", "0", "/bin/true"]],
     "tests/node": [["/nowhere/at/all"], ["/"], ["--files", "0"], ["--lines", "abc"]],
     "tests/simulate": [[], ["fly"], ["--wrong", "fly", "run"]],
     "tests/soak": [[], ["/nowhere/at/all"], ["--processors", "0", "/bin/true"], ["/tmp"],
                    ["--seconds", "nan", "/bin/true"], ["--keep", "/nowhere", "/bin/true"]],
     "tests/soak.d/faults": [["--runs", "x"], ["--runs", "0", "--seeds", "0"], ["--jobs", "0"]],
     "tools/account": [["/nowhere/at/all"], ["a", "b"]],
-    "tools/explain": [["/nowhere/at/all"], ["a", "b"]],
     "tools/judge": [["/nowhere/at/all"], ["/"], ["a", "b"]],
+    "tools/play": [[], ["/nowhere/at/all"], ["/"], ["--timeout", "0", "x"], ["--repeat", "0", "x"],
+                   ["--program", "/nowhere/at/all", "x"],
+                   ["--expect", "/nowhere/at/all", "examples/two_windows.script"]],
+    "tools/report": [["/nowhere/at/all"], ["--most", "0"], ["--script", "/nowhere/at/all"]],
+    "tools/release": [["--to"], ["--to", "/dev/null"]],
     "tools/steps-of": [["/nowhere/at/all"], ["--states", "x"]],
+    "tools/why": [["/nowhere/at/all"], ["/"], ["a", "b"]],
     "tools/view": [["/nowhere/at/all"], ["a", "b"]],
-    "tools/draw": [["/nowhere/at/all"], ["/"], ["--most", "-1"]],
+    "tools/draw": [["/nowhere/at/all"], ["--most", "-1"]],
     "tools/build": [["--jobs", "0"]],
     "tools/clauses": [["no_such_crate"]],
     "tools/costs": [[], ["/dev/null"], ["/dev/null", "/nowhere/at/all"]],
@@ -43,18 +49,21 @@ WRONG = {
 }
 # The scripts that read logs, or a script, each with the words before its input.
 READERS = {
-    **{f"tools/{name}": [] for name in ("account", "draw", "explain", "judge", "steps-of", "view")},
+    **{f"tools/{name}": [] for name in ("account", "draw", "judge", "report", "steps-of", "view")},
     "tests/simulate": ["check"],
 }
-# What fails besides where a stream does: `explain` has the statuses of the program.
-STATUS_OF_STREAMS = {"tools/explain": 4}
+# Those that refuse logs without an entry.
+NEED_ENTRIES = {"tools/account", "tools/report"}
 # Scripts whose output is long before they end, and quick to come.
 TALKATIVE = [
     ["tools/clauses"], ["tests/all", "--list"], ["bench/all", "--list"],
     ["tools/view", "tests/runs/two_windows.out"], ["tools/draw", "tests/runs/two_windows.out"],
     ["tools/judge", "examples/run.log"], ["tools/account", "examples/run.log"],
-    ["tools/explain", "examples/run.log"], ["tools/steps-of", "examples/run.log"],
+    ["tools/report", "examples/run.log"], ["tools/steps-of", "examples/run.log"],
+    ["tools/why", "examples/worker_ends.steps"],
+    ["tools/play", "--program=tests/simulate", "examples/two_windows.script"],
 ]
+VERSION = "1.0.0"
 # Two tests: one says its process and never ends, the other waits for that and ends.
 ENDLESS = """import os, pathlib, time, unittest
 class Endless(unittest.TestCase):
@@ -98,6 +107,16 @@ class Commands(support.TestCase):
             with self.subTest(script=name):
                 self.check_help([ROOT / name])
         self.says(len(scripts()), "scripts", 8)
+
+    def test_version(self):
+        """One version, whatever stands behind."""
+        for name in scripts():
+            with self.subTest(script=name):
+                # (The examples stand alone.)
+                if not name.startswith("examples/"):
+                    found = outcome_of([ROOT / name, "--version"])
+                    self.assertEqual(found, (f"{name} {VERSION}\n".encode(), b"", 0))
+        self.says(len(scripts()), "scripts", 20)
 
     def test_wrong_words(self):
         count = 0
@@ -149,7 +168,7 @@ class Streams(support.TestCase):
                         # They print as they go, and print to nobody.
                         self.assertEqual((found.errors, found.status), (b"", 0))
                         continue
-                    self.assertEqual(found.status, STATUS_OF_STREAMS.get(name, 2), found)
+                    self.assertEqual(found.status, 2, found)
                     self.assertIn(said, self.told(found.errors))
                     self.assertTrue(self.told(found.errors).startswith(f"{name}: "), found)
         self.says(2 * len(TALKATIVE), "calls", 18)
@@ -195,7 +214,8 @@ class Streams(support.TestCase):
         self.says(len(READERS), "calls", 7)
 
     def test_inputs(self):
-        """Empty logs are clean. Of what is no logs the first bad line is told, in one line."""
+        """Empty logs are clean, but nothing recorded is no verdict. Of what is no logs the first
+        bad line is told, in one line."""
         rows = [
             (b"", 0), (b"hublog 3\n", 0), (b"hublog 3", 0), (b"\n", 2), (b"hublog 3\n\n", 2),
             (b"\xff\xfe\x00\n" * 3, 2), (b"hublog 3\nagent 0\nput 1 0 0:0 - " + b"[" * 9_000, 2),
@@ -205,8 +225,10 @@ class Streams(support.TestCase):
             for text, status in rows:
                 with self.subTest(script=name, text=text[:40]):
                     found = outcome_of([ROOT / name, *words], text)
-                    self.assertEqual(found.status, status, found)
-                    self.told(found.errors)
+                    is_refused = status == 0 and name in NEED_ENTRIES
+                    self.assertEqual(found.status, 2 if is_refused else status, found)
+                    said = self.told(found.errors)
+                    self.assertEqual("nothing is recorded" in said, is_refused)
                     if status:
                         lines = [it for it in (found.output + found.errors).decode().splitlines()
                                  if ": Bad" in it]
@@ -214,11 +236,11 @@ class Streams(support.TestCase):
         self.says(len(rows) * len(READERS), "inputs", 63)
 
     def test_scripts(self):
-        """What is no script is told, and nothing is printed."""
+        """What is no script is told as the program tells it."""
         scripts = [b"[" * 5_000, b"{", b"\xff", b'{"agent":"boss"}', b'{"at":7,"wait":1}']
         for text in scripts:
             with self.subTest(script=text[:40]):
                 found = outcome_of([TESTS / "simulate", "run"], text)
-                self.assertEqual((found.output, found.status), (b"", 2), found)
-                self.assertIn("no script", self.told(found.errors))
+                kind = b"UnknownName" if b"7" in text else b"Syntax"
+                self.assertEqual(found, (b"line 1: " + kind + b"\n", b"", 2))
         self.says(len(scripts), "scripts", 5)

@@ -15,7 +15,7 @@ import xml.etree.ElementTree
 import support
 from support import ROOT, TESTS, outcome_of
 
-import runlog
+import naming
 
 DRAW = ROOT / "tools" / "draw"
 SVG = "{http://www.w3.org/2000/svg}"
@@ -58,14 +58,17 @@ SCRIPT = """{"agent":"window","origin":"https://a.example"}
 """
 ACCEPTED = 'put 1 0 0:0 - "one"\nput 1 0 0:1 notice\nput 1 0 0:2 - "three"\n'
 ONE, NOTICE, THREE = (f"got{line[3:]}\n" for line in ACCEPTED.splitlines())
-# The kind, what agent 1 logged, the title of the arrow that is at fault, and what was due there.
+# The kind, what agent 1 logged, the title of the arrow that is at fault, and what is said there.
 FAULTS = [
-    ("AfterClose", f"{ONE}closed 1\n{NOTICE}", "end 1 0:1 notice", "nothing more was due"),
-    ("AfterNotice", ONE + NOTICE + THREE, 'end 1 0:2 "three"', "nothing more was due"),
-    ("Changed", 'got 1 0 0:0 - "two"\n', 'end 1 0:0 "two"', 'got "two"'),
-    ("Twice", ONE + ONE, 'end 1 0:0 "one"', "0:1 was next"),
-    ("Gap", ONE + THREE, 'end 1 0:2 "three"', "0:1 was next"),
-    ("Foreign", f'{ONE}got 1 0 0:7 - "x"\n', 'end 1 0:7 "x"', "0:1 was next"),
+    ("AfterClose", f"{ONE}closed 1\n{NOTICE}", "end 1 0:1 notice",
+     "AfterClose: 0:1 was got after the end was closed"),
+    ("AfterNotice", ONE + NOTICE + THREE, 'end 1 0:2 "three"',
+     "AfterNotice: 0:2 was got after the notice of its line, which is the last"),
+    ("Changed", 'got 1 0 0:0 - "two"\n', 'end 1 0:0 "two"', 'Changed, got "two"'),
+    ("Twice", ONE + ONE, 'end 1 0:0 "one"', "Twice: 0:0 was got twice"),
+    ("Gap", ONE + THREE, 'end 1 0:2 "three"', "Gap: passed over, 0:1 is got nowhere"),
+    ("Foreign", f'{ONE}got 1 0 0:7 - "x"\n', 'end 1 0:7 "x"',
+     "Foreign: 0:7 was got, and nobody put it there"),
 ]
 TO_ITSELF = "hublog 3\nagent 0\nput 0 0 0:0 - 1\ngot 0 0 0:0 - 1\n"
 
@@ -269,8 +272,9 @@ class Pictures(support.TestCase):
             (f"put 0 0 0:0 7 1\n{arrow} 7 1\n", ["message with ports"]),
             (f"put 0 0 0:0 notice\n{arrow} notice\n", ["notice that"]),
             ("put 0 0 0:0 - 1\ngot 0 0 0:0 - 1\n", ["message: ", "message that waits"]),
-            ("put 0 0 0:0 - 1\n", ["message: ", "put, and never got"]),
-            ("got 0 0 0:0 - 1\n", ["message: ", "got, and put by nobody", "fault: "]),
+            ("put 0 0 0:0 - 1\n", ["message: ", "put, and never got", "what is found wrong"]),
+            ("got 0 0 0:0 - 1\n",
+             ["message: ", "got, and put by nobody", "what is found wrong"]),
             ("adopted 0 1\n", ["adopts "]),
             ("closed 0\n", ["closes "]),
         ]
@@ -283,14 +287,14 @@ class Pictures(support.TestCase):
         self.says(len(wanted), "legends")
 
     def test_faults(self):
-        """The arrow of the fault alone is red, and says what was due."""
+        """The arrow of the fault alone is red, and says what is wrong."""
         for kind, entries, title, said in FAULTS:
             with self.subTest(kind=kind):
                 logs = f"hublog 3\nagent 0\n{ACCEPTED}agent 1\n{entries}"
                 root = parsed(run(logs))
                 red = [it for it in groups(root, "delivery") if is_red(it)]
                 self.assertEqual([it.find(f"{SVG}title").text for it in red], [title])
-                self.assertIn(f"fault: {kind}, {said}", texts(root))
+                self.assertIn(said, texts(root))
                 self.assertEqual(arrows(root)[2], kind == "Foreign")
                 self.assertEqual(complaints(root), [])
         self.says(len(FAULTS), "kinds", 6)
@@ -299,8 +303,8 @@ class Pictures(support.TestCase):
         left_out = ["20 messages left out, after the first 100"]
         one_of_three = ["2 messages left out, after the first 1"]
         hidden = [
-            "not drawn: fault: AfterNotice at end 1, line 0, place 2: 0:2 at line 9 of the input:"
-            " it comes after the notice of its line, which is the last; nothing more was due",
+            "not drawn: AfterNotice at end 1, line 0: 0:2 was got after the notice of its line,"
+            " which is the last",
             "2 messages left out, after the first 1",
         ]
         late = f"hublog 3\nagent 0\n{ACCEPTED}agent 1\n{ONE}{NOTICE}{THREE}"
@@ -346,7 +350,7 @@ class Texts(support.TestCase):
         ]
         for text, columns, wanted in rows:
             with self.subTest(text=text, columns=columns):
-                self.assertEqual(runlog.short(text, columns), wanted)
+                self.assertEqual(naming.short(text, columns), wanted)
         self.says(len(rows), "texts")
 
 
@@ -358,8 +362,8 @@ class Docs(support.TestCase):
         for picture in pictures:
             with self.subTest(picture=picture.name):
                 script = ROOT / "examples" / f"{picture.stem}.script"
-                logs = (TESTS / "runs" / f"{picture.stem}.out").read_bytes()
-                done = outcome_of([DRAW, "--script", script], logs)
+                path = TESTS / "runs" / f"{picture.stem}.out"
+                done, logs = outcome_of([DRAW, "--script", script, path]), path.read_bytes()
                 self.assertEqual((done.errors, done.status), (b"", 0))
                 self.assertIsNone(support.first_difference(picture.read_bytes(), done.output))
                 root = parsed(done)
@@ -373,19 +377,19 @@ class Refusals(support.TestCase):
 
     def test_logs(self):
         bad = [
-            ("hublog 9\n", b"line 1: BadHeader\n"),
-            ("hublog 3\nput 0 0 0:0 - 1\n", b"line 2: BadLine\n"),
-            ("hublog 3\nagent 0\ngot 0 0 0:0 - 1.5\n", b"line 3: BadLine\n"),
+            ("hublog 9\n", b"tools/draw: <stdin>: line 1: BadHeader\n"),
+            ("hublog 3\nput 0 0 0:0 - 1\n", b"tools/draw: <stdin>: line 2: BadLine\n"),
+            ("hublog 3\nagent 0\ngot 0 0 0:0 - 1.5\n", b"tools/draw: <stdin>: line 3: BadLine\n"),
         ]
         for text, answer in bad:
             with self.subTest(text=text):
-                self.assertEqual(run(text), (answer, b"", 2))
+                self.assertEqual(run(text), (b"", answer, 2))
         self.says(len(bad), "logs")
 
     def test_scripts(self):
         good = '{"agent":"window","origin":"https://a.example"}\n'
         bad = [
-            "[]", "", "{", '{"agent":"boss"}', '{"channel":["a"]}', '{"channel":"ab"}',
+            "[]", "# x", "{", '{"agent":"boss"}', '{"channel":["a"]}', '{"channel":"ab"}',
             '{"channel":["a",1]}', '{"member":7}', "[" * 5_000,
         ]
         with tempfile.TemporaryDirectory(prefix="a folder ") as folder:
@@ -414,5 +418,8 @@ class Refusals(support.TestCase):
         with tempfile.NamedTemporaryFile(suffix=" logs") as file:
             file.write(PORT_SENT.encode())
             file.flush()
-            self.assert_outcome(run("", file.name), run(PORT_SENT))
+            name = pathlib.Path(file.name).name.encode()
+            piped = run(PORT_SENT)
+            piped = piped._replace(output=piped.output.replace(b"&lt;stdin&gt;", name))
+            self.assert_outcome(run("", file.name), piped)
         self.says(1, "file")

@@ -38,6 +38,7 @@ def needs(tool, why=None):
 def sources():
     """What the library and its wrappers are made of."""
     yield ROOT / "crates.txt"
+    yield from (ROOT / "tools" / name for name in ("machine.py", "notices.py", "weburl.py"))
     for folder in (EMBED, ROOT / "crates"):
         for path in folder.rglob("*"):
             parts = path.relative_to(folder).parts
@@ -269,7 +270,9 @@ class Folder(Embedded):
         found = outcome_of([EMBED / "build", "--to", folder], seconds=SECONDS_TO_BUILD)
         self.assertEqual(found.status, 0, found.errors.decode())
         told = (folder / "BUILT").read_text(encoding="utf-8")
-        self.assertRegex(told, r"^interface \d+\ncommit \w+(-dirty)?\ntoolchain rattle-kit")
+        head = r"^version [\d.]+\n(interface \d+ of \w+\n){2}commit \w+(-dirty)?\n"
+        head += "toolchain rattle-kit"
+        self.assertRegex(told, head)
         sums = re.findall(r"^([0-9a-f]{64})  (.*)$", told, re.MULTILINE)
         listed = "".join(f"{total}  {name}\n" for total, name in sums)
         check = outcome_of(["sha256sum", "--check", "--quiet"], listed.encode(), cwd=folder)

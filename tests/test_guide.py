@@ -1,8 +1,8 @@
 """Runs each session of docs/GUIDE.md on the built program, and compares all that it shows.
 
 A session is a block that begins with ```console and a text line `$ COMMAND`; the rest of the block
-is the whole output. The commands are `cat FILE` and `./messagehub MODE < FILE`. The page shows no
-exit status: it is told by the last line of the output, as docs/FORMATS.md says.
+is the whole output. The commands are `cat FILE`, `./messagehub MODE < FILE` and `tools/play FILE`.
+The page shows no exit status: it is told by the last line of the output, as docs/FORMATS.md says.
 """
 
 import re
@@ -12,6 +12,7 @@ from support import MODES, PROGRAM, ROOT, Outcome, outcome_of, settled
 
 SESSION = re.compile(r"^```console\n\$ (.*)\n((?:.*\n)*?)```$", re.MULTILINE)
 RUN = re.compile(rf"\./messagehub ({'|'.join(MODES)}) < (\S+)")
+PLAY = re.compile(r"tools/play (\S+)")
 BAD_INPUT = re.compile(rb"line [0-9]+: [A-Za-z0-9()]+")
 
 
@@ -53,11 +54,20 @@ class Sessions(support.TestCase):
         self.assertEqual({mode for mode, _, _ in shown}, set(MODES))
         self.says(len(shown), "runs", 7)
 
+    def test_plays(self):
+        shown = [(PLAY.fullmatch(command), output) for command, output in sessions()]
+        shown = [(found[1], output) for found, output in shown if found]
+        for path, output in shown:
+            words = [ROOT / "tools" / "play", f"--program={PROGRAM}", ROOT / path]
+            self.assert_outcome(outcome_of(words), Outcome(output, b"", 0))
+        self.says(len(shown), "scripts")
+
     def test_commands(self):
         commands = [command for command, _ in sessions()]
         for command in commands:
             with self.subTest(command=command):
-                self.assertTrue(command.startswith("cat ") or RUN.fullmatch(command))
+                is_known = RUN.fullmatch(command) or PLAY.fullmatch(command)
+                self.assertTrue(command.startswith("cat ") or is_known)
         self.says(len(commands), "commands", 14)
 
 

@@ -1,54 +1,33 @@
-"""Reads the scripts of tests/rows and of the examples with tools/hubscript.py."""
-
-import json
+"""Reads the scripts of tests/rows and of the examples with tools/hubscript.py, and changed ones."""
 
 import support
-from support import ROOT, TESTS
+from support import PROGRAM, ROOT, TESTS, outcome_of
 
 import hubscript
+import weburl
 
-# What it leaves to the program: what is wrong with actions, and with URLs.
-URLS = {"script-no-url", "script-opaque-origin"}
-# An action that is nested too deep to be read at all.
-DEEP = "script-line-128-deep"
+CHANGED = 500
 
 
-def refusal_of(script):
+def refusal_of(script, is_strict=True):
     try:
-        hubscript.declarations(script)
+        hubscript.read(script, is_strict)
     except hubscript.BadScript as bad:
         return f"{bad}\n"
     return ""
 
 
-def is_declaration(line):
-    """Whether a script line is one, or no JSON object at all."""
-    try:
-        fields = json.loads(line)
-    except (ValueError, RecursionError):
-        return True
-    return not isinstance(fields, dict) or not {"agent", "channel", "member"}.isdisjoint(fields)
-
-
 class Scripts(support.TestCase):
-    """The declarations of scripts, and the refusals of bad ones."""
-
-    def wanted(self, row):
-        """What the row says of the script, if it says it of a declaration."""
-        if row.status != 2 or row.name in URLS:
-            return ""
-        said = row.output.decode()
-        at = int(said.split(" ")[1].removesuffix(":"))
-        is_told = row.name == DEEP or at > hubscript.MOST_LINES
-        return said if is_told or is_declaration(row.text.split(b"\n")[at - 1]) else ""
+    """Scripts, and the first mistake of bad ones, which the program tells too."""
 
     def test_rows(self):
         rows = support.rows("run")
         for row in rows:
             with self.subTest(row=row.name):
-                self.assertEqual(refusal_of(row.text), self.wanted(row))
+                wanted = row.output.decode() if row.status == 2 else ""
+                self.assertEqual(refusal_of(row.text), wanted)
         self.says(len(rows), "rows", 44)
-        self.says(sum(bool(self.wanted(row)) for row in rows), "refusals", 10)
+        self.says(sum(row.status == 2 for row in rows), "refusals", 30)
 
     def test_refusals(self):
         """By the rules of docs/FORMATS.md. Line 1 declares agent 0."""
@@ -75,18 +54,78 @@ class Scripts(support.TestCase):
                 self.assertEqual(refusal_of(script.encode()), f"line 2: {kind}\n")
         self.says(len(rows), "lines", 18)
 
+    def test_changed(self):
+        found = outcome_of([TESTS / "changed_scripts", f"--count={CHANGED}", PROGRAM])
+        last = found.output.decode().splitlines()[-1]
+        self.assertEqual((last, found.status), (f"{CHANGED} passed, 0 failed", 0), found.output)
+        self.says(CHANGED, "changed scripts")
+
     def test_declarations(self):
         paths = sorted((ROOT / "examples").glob("*.script"))
         shown = {}
         for path in paths:
-            found = hubscript.declarations(path.read_bytes())
+            found = hubscript.read(path.read_bytes())
             shown[path.stem] = ([it.kind for it in found.agents], found.end_names())
         self.assertEqual(shown["two_windows"], (["window", "window"], ["cart", "checkout"]))
         self.assertEqual(shown["service_worker"][0].count("worker"), 1)
         # The runs of the scripts have no end behind the last one that is declared.
         for path in paths:
-            found = hubscript.declarations(path.read_bytes())
+            found = hubscript.read(path.read_bytes())
             logs = (TESTS / "runs" / f"{path.stem}.out").read_text("utf-8")
             closed = [int(line.split(" ")[1]) for line in logs.split("\n") if "closed" in line]
             self.assertLess(max(closed), found.end_count())
         self.says(len(paths), "scripts", 2)
+
+
+class Origins(support.TestCase):
+    """tools/weburl.py, by the URL Standard and its examples."""
+
+    def test_origins(self):
+        rows = [
+            ("https://a.test:443/x y", "https://a.test"),
+            (" https://a.te\tst/b c\n", "https://a.test"),
+            ("https:\\\\a.test\\x", "https://a.test"),
+            ("http://u:p@[::1]:80?q#f", "http://[::1]"),
+            ("HTTP://A.test:8080/x", "http://a.test:8080"),
+            ("blob:https://a.test/1", "https://a.test"),
+            (" wss://u:p@a.test:8/ ", "wss://a.test:8"), ("https:a.test", "https://a.test"),
+            ("http:\\\\a%2Etest\\", "http://a.test"), ("https://a.test:", "https://a.test"),
+            ("http://0x7F.1", "http://127.0.0.1"), ("http://1.2.3.4.", "http://1.2.3.4"),
+            ("http://[0:0::1]:80", "http://[::1]"),
+            ("https://B\u00dccher.test:8080/x", "https://xn--bcher-kva.test:8080"),
+            ("https://fa\u00df\u3002test", "https://xn--fa-hia.test"),
+            *((it, weburl.BadUrl) for it in (
+                "nonsense", "", "https://", "https://@", "https://a b", "https://a.test:65536",
+                "https://a:b:c", "http://256.1", "http://1.2.3.4.5", "http://08.1", "http://[::1",
+                "http://[1::%25eth]", "http://a%00b", "//a.test",
+            )),
+            *((it, weburl.OpaqueOrigin) for it in (
+                "data:text/plain,x", "file:///x", "blob:data:,x", "about:blank", "blob:wss://a/",
+            )),
+        ]
+        for url, wanted in rows:
+            with self.subTest(url=url):
+                try:
+                    found = weburl.origin_of(url)
+                except weburl.NoOrigin as why:
+                    found = type(why)
+                self.assertEqual(found, wanted)
+        self.says(len(rows), "URLs", 34)
+
+    def test_program(self):
+        """The step `agent` says the same of a URL, and of its origin that it is the same."""
+        urls = ["https://B\u00fccher.test", "http://0x7F.1:80", "wss://[0::1]", "blob:http://a/b",
+                "nonsense", "https://", "http://256.1", "data:,x", "file:///x"]
+        outcomes = {weburl.BadUrl: "bad-url", weburl.OpaqueOrigin: "opaque-origin"}
+        for url in urls:
+            try:
+                origin, first = weburl.origin_of(url), "agent 0"
+            except weburl.NoOrigin as why:
+                origin, first = "-", outcomes[type(why)]
+            lines = [f"agent {url}", f"agent {origin}", 'member 0 "n"', 'member 1 "n"', "cast 0 - 1"]
+            found = outcome_of([PROGRAM, "steps"], "\n".join(lines).encode())
+            first_line, *_, last = found.output.decode().splitlines()
+            self.assertEqual(first_line, first, url)
+            if first == "agent 0":
+                self.assertEqual(last, "cast 1 accepted 0:0", url)
+        self.says(len(urls), "URLs", 9)

@@ -76,7 +76,11 @@ class Crate:
         print("logic=proved functions=1", flush=True)
         return 0
 """
-USAGE = b"usage: messagehub steps|run|check\n"
+USAGE = b"usage: messagehub [--unproved] steps|run|check [FILE]\n"
+
+
+# What rt says where its limit of time ends the program.
+LATE = "checked: no-answer: the program did not end within the time limit\n"
 
 
 class Launcher(support.TestCase):
@@ -112,12 +116,13 @@ class Launcher(support.TestCase):
         (root / "crates.txt").write_text(CRATES, encoding="utf-8")
         (root / "HANDLES").write_text("Handles allowed: none.\n", encoding="utf-8")
         shutil.copy(ROOT / "messagehub", root)
-        for tool in ("build", "command.py"):
+        for tool in ("build", "buildplan.py", "command.py", "cratelist.py", "rtinside.py"):
             shutil.copy(ROOT / "tools" / tool, root / "tools")
         return root
 
     def launch(self, *words, root=None):
-        return outcome_of([(root or self.root) / "messagehub", *words], env=self.settings)
+        words = [(root or self.root) / "messagehub", *words]
+        return outcome_of(words, env=self.settings, cwd=self.folder)
 
     def calls(self):
         """What rt was asked for since the last call of this."""
@@ -133,19 +138,54 @@ class Launcher(support.TestCase):
         return found
 
     def test_words(self):
-        settings = [self.settings, {**self.settings, "PATH": os.defpath}]
-        rows = [[], [""], ["fly"], ["-h"], ["steps", "run"], ["--unproved"], ["--unproved", "fly"]]
-        for self.settings in settings:
-            for words in rows:
+        """Wrong words are told in a line of their own, and then the usage: nothing is built."""
+        (self.folder / "a.steps").touch()
+        rows = [
+            ([], ""), ([""], "'' is no mode"), (["fly"], "'fly' is no mode"),
+            (["stpes"], "'stpes' is no mode, did you mean steps?"),
+            (["rum", "x"], "'rum' is no mode, did you mean run?"),
+            (["--chek"], "'--chek' is no mode"),
+            (["a.steps"],
+             "a.steps is a file, and no mode is before it: did you mean steps a.steps?"),
+            (["steps", "a.steps", "b"], "b: one FILE at most"),
+            (["--unproved"], "--unproved: no mode behind it"),
+            (["--unproved", "chek"], "'chek' is no mode, did you mean check?"),
+            (["--version", "steps"], "'--version' is no mode"),
+        ]
+        for self.settings in [self.settings, {**self.settings, "PATH": os.defpath}]:
+            for words, said in rows:
                 with self.subTest(words=words):
                     found = self.launch(*words)
-                    self.assertEqual(found, (b"", USAGE, 2))
+                    line = f"messagehub: {said}\n" if said else ""
+                    self.assertEqual(found, (b"", line.encode() + USAGE, 2))
                     self.assertEqual(self.calls(), [])
-            found = self.launch("--help")
+        self.says(2 * len(rows), "wrong calls", 22)
+
+    def test_help(self):
+        rows = [["-h"], ["--help"], ["run", "--help"], ["check", "-h"], ["--unproved", "run", "-h"]]
+        for words in rows:
+            found = self.launch(*words)
             self.assertEqual((found.errors, found.status, self.calls()), (b"", 0, []))
-            self.assertTrue(found.output.startswith(b"usage: messagehub"), found.output)
+            self.assertTrue(found.output.startswith(USAGE), found.output)
+            self.assertIn(b"$ printf 'agent -", found.output)
             self.assertLess(max(map(len, found.output.split(b"\n"))), 101)
-        self.says(len(rows) * len(settings), "wrong calls", 14)
+        self.says(len(rows), "calls")
+
+    def test_file(self):
+        """A file in the place of standard input; one that can't be read is told alone."""
+        path = self.folder / "a file.steps"
+        path.write_text("some text\n", encoding="utf-8")
+        self.launch("steps")
+        program = self.root / "crates" / "messagehub" / "out" / "messagehub"
+        program.write_text('#!/bin/sh\necho "ran $@"\ncat\n', encoding="utf-8")
+        self.assertEqual(self.launch("steps", path), (b"ran steps\nsome text\n", b"", 0))
+        rows = [("/nowhere/at/all", "there is no such file"), (self.folder, "it is a folder"),
+                (path / "below", "there is no such file")]
+        for name, why in rows:
+            for words in (["check", name], ["--unproved", "check", name]):
+                said = f"messagehub: {name}: {why}\n".encode()
+                self.assertEqual(self.launch(*words), (b"", said, 2))
+        self.says(2 * len(rows) + 1, "calls")
 
     def test_no_toolchain(self):
         self.settings["PATH"] = os.defpath
@@ -261,6 +301,8 @@ class Launcher(support.TestCase):
             ("usage\nrun=ended status=2 runners=1 proved=no\n", 2, b"usage\n"),
             ("checked: ended status=0\nrun=ended status=0 runners=1 proved=no\n", 0, b""),
             ("checked: no-answer: too long\nrun=no-answer proved=no\n", 70, b"run=no-answer"),
+            ("interpreter: no-answer: lacks\n" + LATE + "run=no-answer proved=no\n", 70,
+             b"messagehub: the program had not ended after a minute, and was ended"),
             ("error[no-such-name]\nrun=none proved=no\n", 70, b"error[no-such-name]"),
             ("run=ended status=0 proved=no\nrt: killed\n", 70, b"rt: killed"),
             ("", 70, b""),
@@ -270,9 +312,10 @@ class Launcher(support.TestCase):
             self.assertEqual((found.output, found.status), (b"", status), found.errors)
             self.assertTrue(found.errors.startswith(b"messagehub: this program is NOT proved"))
             self.assertIn(words, found.errors)
-            self.assertEqual(b"checked:" in found.errors, status == 70 and "checked" in said)
-        self.assertEqual(len(self.calls()), 6)
-        self.says(6, "runs")
+            is_shown = status == 70 and "checked" in said and LATE not in said
+            self.assertEqual(b"checked:" in found.errors, is_shown)
+        self.assertEqual(len(self.calls()), 7)
+        self.says(7, "runs")
 
     def test_stopped(self):
         # The crate `high` waits for a file, and Ctrl-C comes before that is there.

@@ -10,6 +10,8 @@ import re
 import support
 from support import MODES, PROGRAM, ROOT, outcome_of, settled
 
+import cratelist
+
 README = ROOT / "README.md"
 DOCS = sorted((ROOT / "docs").glob("*.md"))
 CRATE_PAGES = sorted((ROOT / "crates").glob("*/README.md"))
@@ -27,7 +29,7 @@ RUN = re.compile(rf"\./messagehub ({'|'.join(MODES)}) < (\S+)")
 # Commands that are shown and not run: they prove, build without proofs, or build a library.
 LEFT = re.compile(r"\.ci/run|\./messagehub --unproved .*|embed/build .*|python3 embed/python/.*")
 
-MOST_WORDS = {"README.md": 1_500, "a crate": 250, "all": 30_000}
+MOST_WORDS = {"README.md": 1_500, "a crate": 250, "all": 31_000}
 
 
 def text_of(path):
@@ -40,8 +42,7 @@ def words_of(path):
 
 def crates():
     """The names of the crates, and those of them that are crates of tests."""
-    lines = text_of(ROOT / "crates.txt").splitlines()
-    names = {line.split(":")[0].split()[0] for line in lines if re.match(r"[a-z]\w*.*:", line)}
+    names = set(cratelist.lines())
     return names, {name for name in names if name.endswith("_tests")}
 
 
@@ -167,11 +168,7 @@ class Links(support.TestCase):
 
     def test_folders_to_copy(self):
         """docs/LIBRARY.md names with each crate all those that it stands on."""
-        stands_on = {}
-        for line in text_of(ROOT / "crates.txt").splitlines():
-            if re.match(r"[a-z]\w*.*:", line):
-                head, _, tail = line.partition(":")
-                stands_on[head.split()[0]] = {it for it in tail.split() if it.startswith("hub_")}
+        stands_on = cratelist.with_below(cratelist.lines())
         page, before, rows = text_of(ROOT / "docs" / "LIBRARY.md"), set(), 0
         for row in re.findall(r"^\| [^|]+ \| ([^|]*`hub_[^|]*) \|$", page, re.MULTILINE):
             copied = set(re.findall(r"`(\w+)`", row)) | (before if "these, and" in row else set())
@@ -214,4 +211,6 @@ class Counts(support.TestCase):
         version = re.search(r"^## ([0-9.]+)", text_of(ROOT / "CHANGELOG.md"), re.MULTILINE)[1]
         told = outcome_of([ROOT / "messagehub", "--version"], None).output.decode().split()
         self.assertEqual(told[:2], ["messagehub", version])
-        self.says(1, "version")
+        cargo = text_of(ROOT / "embed" / "rust" / "Cargo.toml")
+        self.assertIn(f'\nversion = "{version}"\n', cargo)
+        self.says(2, "versions")

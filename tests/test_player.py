@@ -89,7 +89,7 @@ class Drawn(support.TestCase):
 class Steps:
     """Draws step lines for which there are calls, beside a machine that does them.
 
-    The machine knows no agent that ends, so it isn't told what such an agent is refused."""
+    The machine isn't told which agents end, nor what such an agent is refused."""
 
     # How often it takes at most for a port that was sent.
     MOST_TAKES = 12
@@ -495,8 +495,8 @@ class Loops(support.TestCase):
 
 
 class TurnRows(support.TestCase):
-    """The rows of `turns`, where event loops do what no step line says, and two that are too long to
-    be written down."""
+    """The rows of `turns`, where event loops do what no step line says, and two that are too long
+    to be written down."""
 
     def test_rows(self):
         rows = support.rows("turns")

@@ -3,12 +3,14 @@
 import importlib.util
 import os
 import pathlib
+import queue
 import random
 import shutil
 import sys
 import tempfile
 import unittest
 
+import planted
 import support
 from support import PROGRAM, ROOT, TESTS, outcome_of
 
@@ -38,6 +40,13 @@ class Case(support.TestCase):
     def merged(self, *words):
         return outcome_of([MERGE, *words])
 
+    def check_report(self, folder, is_cut):
+        """Nothing is found but that a log was cut."""
+        words = [ROOT / "tools" / "report", "--allow-waiting", folder]
+        for word, status in [("--json", 2 if is_cut else 0), ("--allow-cut", 0)]:
+            found = outcome_of([*words, word])
+            self.assertEqual((found.errors, found.status), (b"", status), found.output)
+
     def verdict(self, logs):
         """What the second checker says of logs, and the program, where there is one."""
         checkers = [[ROOT / "tools" / "judge"]]
@@ -63,6 +72,7 @@ class Node(Case):
 
     def run_part(self, part):
         seeds = [seed for seed in SEEDS if seed % PARTS == part]
+        self.faults = planted.Planted()
         total = {b"put": 0, b"got": 0, b"adopted": 0, b"closed": 0}
         for seed in seeds:
             with self.subTest(seed=seed):
@@ -72,6 +82,8 @@ class Node(Case):
         self.says(len(seeds) * PROGRAMS, "programs", 25)
         for word, count in total.items():
             self.says(count, word.decode(), 20 * len(seeds))
+        if not part % 2:
+            self.faults.says(self, 1)
 
     def run_seed(self, seed):
         """The whole logs of the programs of a seed, which are judged, also without what is cut."""
@@ -83,6 +95,9 @@ class Node(Case):
         self.assertEqual(b" was cut: " in judged.errors, is_cut, judged.errors)
         self.assertEqual(self.verdict(whole.output), "clean")
         self.assertEqual(self.verdict(judged.output), "clean")
+        self.check_report(folder, is_cut)
+        if not is_cut:
+            self.faults.check(self, whole.output, seed)
         self.check_shorter(folder, random.Random(seed))
         return whole.output
 
@@ -93,6 +108,7 @@ class Node(Case):
         found = self.merged(folder)
         self.assertEqual(found.status, 1, found.errors)
         self.assertEqual(self.verdict(found.output), "clean")
+        self.check_report(folder, True)
 
 
 def method_of(part):
@@ -201,7 +217,26 @@ class Bodies(Case):
         self.says(2, "refusals")
 
 
-# Python and Rust
+@needs_node
+class Broker(Case):
+    """A wrong broker in JS: classes in place of Node's test Node, and a Recorder the broker."""
+
+    def test_broker(self):
+        ways = {"classes": (0, b"right: "), "recorder": (1, b"wrong: ")}
+        for way, (status, said) in ways.items():
+            folder = self.folder / way
+            folder.mkdir()
+            self.node("broker.mjs", folder, way)
+            found = outcome_of([ROOT / "tools" / "report", folder])
+            self.assertEqual((found.errors, found.status), (b"", status), found)
+            self.assertTrue(found.output.startswith(said), found.output)
+        for said in ("out of order, 0:2 is got nowhere, 0:3 came 1 place later",
+                     "passed over, 0:5 is got nowhere"):
+            self.assertIn(f": {said}\n".encode(), found.output)
+        self.says(len(ways), "ways")
+
+
+# Python, Rust and JavaScript
 
 LOG = f"""hublog 3
 agent 3
@@ -214,11 +249,12 @@ put 1 0 0:3 notice
 got 2 0 0:1 notice
 adopted 5 1
 closed 2
+put 1 0 0:4 - "accepted"
 deliveries
 """
 REFUSALS = (
     "BadAgent Io BadEnd BadLine BadEpoch BadNumber BadPorts BadPorts BadPorts NotJson BadEnd "
-    "BadEpoch BadEnd ClosedTwice BadLine BadEnd Finished"
+    "BadEpoch BadEnd ClosedTwice BadLine BadEnd PutTwice PutTwice Finished"
 ).split()
 
 
@@ -279,17 +315,40 @@ class Python(Case):
             self.refusal(log.closed, 2),
             self.refusal(log.put_notice, 1, 32, 0, 0),
             self.refusal(log.got_notice, "1", 0, 0, 0),
+            self.refusal(log.put, 1, 0, 0, 0, [], 1),
+            self.refusal(log.put_notice, 1, 0, 0, 1),
         ]
+
+    def check_putting(self, log):
+        """What is refused is taken back, and may be put again; what is logged meanwhile stays."""
+        size = self.path.stat().st_size
+        with self.assertRaises(queue.Full), log.putting(1, 0, 0, 4, [], "refused"):
+            self.assertGreater(self.path.stat().st_size, size)
+            raise queue.Full
+        self.assertEqual(self.path.stat().st_size, size)
+        with log.putting(1, 0, 0, 4, [], "accepted"):
+            pass
 
     def test_log(self):
         with self.recorder.Recorder(self.path, 3) as log:
             self.write(log)
-            self.assertEqual(self.path.read_bytes() + b"deliveries\n", LOG.encode())
             refusals = self.refusals(log)
+            self.check_putting(log)
+            self.assertEqual(self.path.read_bytes() + b"deliveries\n", LOG.encode())
         log.finish()
         self.assertEqual(refusals + [self.refusal(log.closed, 7)], REFUSALS)
         self.assertEqual(self.path.read_bytes(), LOG.encode())
-        self.says(len(REFUSALS), "refusals", 17)
+        self.says(len(REFUSALS), "refusals", 19)
+
+    def test_entry_within_putting(self):
+        """Where an entry was written behind a put, the put isn't taken back."""
+        with self.recorder.Recorder(self.path, 3) as log:
+            with self.assertRaises(queue.Full), log.putting(1, 0, 0, 0, [], 1):
+                log.closed(1)
+                raise queue.Full
+        self.assertEqual(self.path.read_bytes(),
+                         b"hublog 3\nagent 3\nput 1 0 0:0 - 1\nclosed 1\ndeliveries\n")
+        self.says(1, "log")
 
     def test_bodies(self):
         """Every body that JSON has is written, and what the reader takes is written as it is."""
@@ -359,6 +418,23 @@ def nested(depth):
     return value
 
 
+@needs_node
+class JavaScript(Case):
+    """The Recorder of record/hublog.mjs does the same, to a file or by a function."""
+
+    def test_log(self):
+        path = self.folder / "agent 3.log"
+        # All that JavaScript has is a body, or has a digest.
+        refusals = [it.replace("Io", "LogExists") for it in REFUSALS[:-1] if it != "NotJson"]
+        told = "hublog 3\nagent 4\nact\nput 1 0 0:0 - \"accepted\"\ndeliveries"
+        self.assertEqual(
+            self.node("plain.mjs", path).splitlines(),
+            [*refusals, "full", "handed over", "Finished", "full", "Finished", *told.splitlines()],
+        )
+        self.assertEqual(path.read_bytes(), LOG.encode())
+        self.says(len(refusals), "refusals", 17)
+
+
 @needs_rustc
 class Rust(Case):
     """record/hublog.rs does the same."""
@@ -389,7 +465,7 @@ class Rust(Case):
         self.assertEqual((found.errors, found.status), (b"", 0))
         self.assertEqual(found.output.decode().split(), REFUSALS)
         self.assertEqual(path.read_bytes(), LOG.encode())
-        self.says(len(REFUSALS), "refusals", 17)
+        self.says(len(REFUSALS), "refusals", 19)
 
     def test_bodies(self):
         path = self.folder / "texts"

@@ -10,6 +10,7 @@ import tempfile
 import threading
 import urllib.parse
 
+import planted
 import test_record
 from support import ROOT, TESTS
 
@@ -128,16 +129,20 @@ class Browsers(test_record.Case):
         version = re.search(r"(?:Firefox|Chrome)/[0-9.]+", said)
         self.assertTrue(version, said)
         total = {b"put": 0, b"got": 0, b"adopted": 0, b"closed": 0}
+        faults = planted.Planted()
         for seed, logs in runs.items():
             with self.subTest(seed=seed):
                 self.assertEqual(len(logs), AGENTS)
                 merged = self.merge_logs(seed, logs)
                 self.assertEqual(self.verdict(merged), "clean")
+                self.check_report(self.folder / seed, False)
+                faults.check(self, merged, int(seed))
                 for word in total:
                     total[word] += test_record.words_of(merged, word + b" ")
         self.says(len(runs), f"programs in {version[0]}", SEEDS)
         for word, count in total.items():
             self.says(count, word.decode(), 5 * SEEDS)
+        faults.says(self, SEEDS // 2)
 
     def check_changes(self, name):
         """What goes wrong between sender and receiver is named by its kind, on three routes."""
@@ -152,14 +157,16 @@ class Browsers(test_record.Case):
         self.says(len(found), "programs", 18)
 
     def check_way(self, way, wanted):
-        """What each browser does, and what the checker says of it. One that isn't there is named."""
+        """What each browser does, and what the checker and the report say of it. One that isn't
+        there is named."""
         count = 0
-        for name, (heard, verdict) in wanted.items():
+        for name, (heard, verdict, kinds) in wanted.items():
             with self.subTest(browser=name):
                 said, runs = self.visit(name, f"departures.html?seed=0&way={way}", 60)
                 merged = self.merge_logs("0", runs["0"])
                 shutil.rmtree(self.folder / "0")
                 self.assertEqual((said, self.verdict(merged)), (heard, verdict))
+                self.assertEqual(planted.kinds_of(merged), set(kinds.split()))
                 count += 1
         if count:
             self.says(count, "browsers")
@@ -179,27 +186,27 @@ class Browsers(test_record.Case):
     def test_messages_wait_at_a_closed_port(self):
         """Firefox delivers them, which is a fault of the logs. Chromium drops them."""
         self.check_way("closed", {
-            "chromium": ("", "clean"),
-            "firefox-esr": ("port one, port two", "fault 17 0 0 AfterClose"),
+            "chromium": ("", "clean", "Lost"),
+            "firefox-esr": ("port one, port two", "fault 17 0 0 AfterClose", "AfterClose"),
         })
 
     def test_peer_is_closed_before_the_port_is_sent(self):
-        """Firefox loses the messages. No log says that, since a message need not arrive."""
+        """Firefox loses the messages."""
         self.check_way("peerClosed", {
-            "chromium": ("sent port one, sent port two", "clean"),
-            "firefox-esr": ("", "clean"),
+            "chromium": ("sent port one, sent port two", "clean", ""),
+            "firefox-esr": ("", "clean", "Lost"),
         })
 
     def test_port_is_sent_with_messages_under_way(self):
-        """Firefox delivers the first at the old port: in order, so that the logs are clean."""
+        """Firefox delivers the first at the old port: in order, but its owner has sent it away."""
         self.check_way("underWay", {
-            "chromium": ("sent port one, sent port two", "clean"),
-            "firefox-esr": ("old port one, sent port two", "clean"),
+            "chromium": ("sent port one, sent port two", "clean", ""),
+            "firefox-esr": ("old port one, sent port two", "clean", "NotOwner"),
         })
 
     def test_closed_port_is_sent(self):
         """Chromium accepts it, and nothing comes there, so that the logs are clean."""
         self.check_way("closedSent", {
-            "chromium": ("accepted", "clean"),
-            "firefox-esr": ("DataCloneError", "clean"),
+            "chromium": ("accepted", "clean", ""),
+            "firefox-esr": ("DataCloneError", "clean", ""),
         })

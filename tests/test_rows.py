@@ -56,7 +56,8 @@ class Files(support.TestCase):
 
     def test_tables(self):
         """Each line of a table stands behind the common front, once for each choice."""
-        lines = ["// shown", "agent {1|2}", "--- each, status 0", "told", "---", "x; y -> z", "w -> "]
+        lines = ["// shown", "agent {1|2}", "--- each, status 0", "told", "---"]
+        lines += ["x; y -> z", "w -> "]
         found = list(row_files.rows_in("steps", ("name", "derived"), lines))
         self.assertEqual(
             [(row.name, row.text, row.output) for row in found],

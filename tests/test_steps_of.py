@@ -156,23 +156,6 @@ class Found(Case):
                 count += 1
         self.says(count, "runs", 12)
 
-    def test_origins(self):
-        """A step line has as much of a URL as its origin needs, and no space."""
-        rows = [
-            ("https://a.test:443/x y", "https://a.test:443"),
-            (" https://a.te\tst/b c\n", "https://a.test"),
-            ("https:\\\\a.test\\x", "https:\\\\a.test"),
-            ("http://u:p@[::1]:80?q#f", "http://u:p@[::1]:80"),
-            ("blob:https://a.test/an-id", "blob:https://a.test"),
-        ]
-        for url, origin in rows:
-            self.assertEqual(ends.origin_of(url), origin)
-        if IS_BUILT:
-            steps = "".join(f"agent {origin}\n" for _, origin in rows)
-            wanted = [f"agent {at}" for at in range(len(rows))]
-            self.assertEqual(outcomes(steps.encode()), wanted)
-        self.says(len(rows), "origins", 5)
-
     def test_program(self):
         """Each run of the program has a step file, with its script and without."""
         count = 0
@@ -182,6 +165,13 @@ class Found(Case):
                 self.check_steps(logs)
                 count += 1
         self.says(count, "runs", 12)
+
+    def test_maker_without_a_log(self):
+        """A queue that comes from an agent that logs nothing is handed on by it."""
+        found = steps_of(b"hublog 3\nagent 0\nadopted 0 1\n")
+        self.assertEqual(found.output.splitlines()[-3:], [b"client 1", b"hand 0 0", b"adopt 0 0"])
+        self.assertEqual(outcomes(found.output)[-2:], ["handed", "adopted 1"])
+        self.says(1, "log")
 
     def test_no_script(self):
         count = 0
@@ -296,9 +286,8 @@ class NotFound(Case):
 class Machine(support.TestCase):
     """The machine of tools/machine.py gives the outcomes of the rows."""
 
-    # URLs that are none, and bodies that aren't compact, are nothing that logs have.
-    LEFT_OUT = {"urls-without-an-origin", "casts-of-two-origins", "body-greatest-and-sorted",
-                "bodies-read"}
+    # Bodies that aren't compact are nothing that logs have.
+    LEFT_OUT = {"body-greatest-and-sorted", "bodies-read"}
 
     def test_rows(self):
         count = 0
@@ -312,8 +301,9 @@ class Machine(support.TestCase):
                 output = "".join(f"{hub.do(line)}\n" for line in lines)
                 self.assertIsNone(support.first_difference(output.encode(), row.output))
                 count += 1
-        self.says(count, "rows", 30)
+        self.says(count, "rows", 45)
 
     @staticmethod
     def is_known(line):
-        return line.split(" ")[0] in machine.ARITY
+        """What an event comes to is told by no log."""
+        return line.split(" ")[0].removeprefix("!") in machine.ARITY.keys() - {"event"}

@@ -2,11 +2,17 @@
 
 import importlib.machinery
 import importlib.util
+import math
+import random
+import re
 import sys
 import tempfile
+import time
 
 import support
 from support import ROOT, outcome_of
+
+import buildplan
 
 
 def tool(name):
@@ -95,8 +101,80 @@ class Build(support.TestCase):
         self.assertFalse([name for name in crates if name.endswith("_tests")])
         self.says(len(order), "crates", 15)
 
+    def play(self, load, noise, seed=0, **machine):
+        """Plays a build in which crates take other times than the plan says: what is left as it was
+        told, with the truth; when each crate ended, and with how many jobs it ran."""
+        draw, build = random.Random(seed), tool("build")
+        crates = build.libraries()
+        plan = buildplan.Plan(crates, **{"processors": 4, "lanes": 4, "memory": 23e6, **machine})
+        work = {name: plan.weight(name) * draw.lognormvariate(0, noise) for name in crates}
+        told, ended, jobs = [(0, plan.told_left())], {}, {}
+        while len(ended) < len(crates):
+            jobs.update((it.name, it.jobs) for it in plan.begin())
+            speeds = plan.speeds()
+            name = min(plan.at_work, key=lambda it: work[it] / speeds[it])
+            # No line is as long in coming.
+            passed = min(60, work[name] / speeds[name])
+            work = {it: left - passed * speeds.get(it, 0) for it, left in work.items()}
+            plan.play(passed * load(plan.now))
+            if passed < 60:
+                plan.end(name)
+                ended[name] = plan.now
+            told.append((plan.now, plan.told_left()))
+        return told, ended, jobs
+
     def test_left(self):
-        """The time that is left never rises as crates are done."""
+        """What is told to be left never rises by more than a tenth, whatever the machine does."""
+        loads = {
+            "even": lambda now: 1, "slow": lambda now: 3, "fast": lambda now: 0.5,
+            "loaded later": lambda now: 3 if now > 300 else 1,
+            "loaded first": lambda now: 4 if now < 900 else 1,
+        }
+        count = 0
+        for load in loads:
+            for seed in range(10):
+                told, ended, _ = self.play(loads[load], 0.4, seed)
+                least, end = math.inf, max(ended.values())
+                for now, words in told[:-1]:
+                    minutes = int((re.search(r"(\d+) min", words) or [0, 0])[1])
+                    self.assertLessEqual(minutes, 1.1 * least, (load, seed, told))
+                    least = min(least, minutes)
+                    count += 1
+                    if load == "even" and "about" in words:
+                        self.assertLess(abs(60 * minutes - (end - now)), 90 + 0.6 * (end - now))
+                self.assertEqual(told[-1][1], "")
+        self.says(count, "lines", 1_000)
+
+    def test_heavy_crate_beside_the_chain(self):
+        """The chain doesn't wait for hub_steps, which gets the processors that are idle."""
+        told, ended, jobs = self.play(lambda now: 1, 0)
+        self.assertEqual(jobs["hub_steps"], 4)
+        self.assertLess(ended["hub_steps"], ended["hub_run"])
+        self.assertLess(ended["messagehub"], 1_050)
+        self.says(len(jobs), "crates", 15)
+
+    def test_memory(self):
+        """Beside an urgent crate with four jobs, where memory stays free for another one."""
+        for memory, jobs in [(23e6, 4), (18e6, 2), (12e6, 1)]:
+            plan = buildplan.Plan(tool("build").libraries(), 4, 4, memory)
+            plan.at_work["hub_core"] = buildplan.Job("hub_core", 4, True, 0, 300)
+            self.assertEqual(plan.jobs_for("hub_steps", is_urgent=False), jobs)
+        self.says(3, "machines")
+
+    def test_proved_before(self):
+        """Crates that were proved before say nothing of how fast the others are."""
+        crates = tool("build").libraries()
+        plan = buildplan.Plan(crates, 4, 4)
+        order = tool("build").order(crates)
+        for name in order[:-1]:
+            plan.at_work[name] = buildplan.Job(name, 1, True, plan.now, plan.weight(name))
+            plan.play(1)
+            plan.end(name, is_new=False)
+        self.assertEqual(plan.told_left(), ", about 1 min left")
+        self.says(len(order), "crates", 15)
+
+    def test_silent(self):
+        """A crate that nothing was told of for long is told of, with what rt says until then."""
         build = tool("build")
         with tempfile.TemporaryDirectory() as folder:
             tempfile.tempdir = folder
@@ -104,9 +182,19 @@ class Build(support.TestCase):
                 work = build.Build(build.libraries(), 4)
             finally:
                 tempfile.tempdir = None
-        times = [work.left()]
-        for name in build.order(work.crates):
-            work.done.append(name)
-            times.append(work.left())
-        self.assertEqual((times, times[-1]), (sorted(times, reverse=True), 0))
-        self.says(len(times), "moments", 15)
+            said = []
+            build.say = said.append
+            for name, text in [("hub_core", ""), ("hub_bell", "fn a: proved\nfn b: proved\n")]:
+                (work.logs / f"{name}.log").write_text(text, encoding="utf-8")
+                work.at_work[name] = name, work.own, work.first
+                work.told[name] = work.first
+            work.tell_silent()
+            self.assertEqual(said, [])
+            work.told = {name: time.monotonic() - 151 for name in work.told}
+            work.tell_silent()
+            work.tell_silent()
+        head = ("messagehub: hub_bell: 2 functions proved; hub_core: at work; rt tells how many "
+                "functions are proved only at the end, about ")
+        self.assertEqual(len(said), 1)
+        self.assertTrue(said[0].startswith(head), said)
+        self.says(1, "line")

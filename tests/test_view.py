@@ -23,6 +23,7 @@ import unittest
 import browser
 import support
 import test_draw
+import test_report
 from support import ROOT, TESTS, outcome_of
 
 import hublog
@@ -31,8 +32,10 @@ VIEW = ROOT / "tools" / "view"
 RUNS = sorted((TESTS / "runs").glob("*.out"))
 FAULTY = ROOT / "examples" / "fault.log"
 ATTACK = "</script><!--<script>'\"><img src=x onerror=alert(1)>&amp;\u202e{{$data}}"
-# How the data of a page tells a put.
-PUT = 0
+# How the data of a page tells an entry.
+PUT, GOT, ADOPTED = range(3)
+# A message is lost as its port moves on, and another one comes behind it.
+LOST_ON_ITS_WAY = test_report.MOVED.replace("~", "").replace("got 17 0 0:1 - 1\n", "")
 # Elements that have no end in HTML.
 VOID = frozenset(["meta", "link", "input", "br"])
 # The colours of a message and of a fault, and how often a picture has each.
@@ -221,20 +224,23 @@ class Pages(support.TestCase):
         with tempfile.TemporaryDirectory(prefix="a folder ") as folder:
             path = pathlib.Path(folder) / "the logs"
             path.write_bytes(text)
-            self.assert_outcome(made(b"", path), wanted)
+            named = Reader(made(b"", path).output)
+            self.assertIn("the logs: 3 agents, 7 deliveries", [text for _, text in named.texts])
+            self.assertEqual(named.data()["entries"], Reader(wanted.output).data()["entries"])
         self.assert_outcome(made_in_parts(text), wanted)
         self.says(2, "inputs")
 
     def test_statuses(self):
         bad = [
-            ("hublog 9\n", [], b"line 1: BadHeader\n"),
-            ("hublog 3\nagent 0\ngot 0 0 0:0 - 1.5\n", [], b"line 3: BadLine\n"),
+            ("hublog 9\n", [], b"tools/view: <stdin>: line 1: BadHeader\n"),
+            ("hublog 3\nagent 0\ngot 0 0 0:0 - 1.5\n", [],
+             b"tools/view: <stdin>: line 3: BadLine\n"),
         ]
         for text, words, errors in bad:
             with self.subTest(text=text):
                 self.assertEqual(made(text, *words), (b"", errors, 2))
         others = [
-            ["a", "b"], ["/nowhere/at/all"], ["/"], ["--script"], ["--script", "/nowhere/at/all"],
+            ["a", "b"], ["/nowhere/at/all"], ["--script"], ["--script", "/nowhere/at/all"],
             ["--script", ROOT / "README.md"],
         ]
         for words in others:
@@ -251,6 +257,79 @@ class Pages(support.TestCase):
         os.close(writer)
         self.assertEqual((closed.returncode, closed.stderr), (-signal.SIGPIPE, b""))
         self.says(len(bad) + len(others) + 2, "calls")
+
+
+def recorded(folder, bug):
+    """The logs of examples/relay.py with a bug."""
+    logs = pathlib.Path(folder) / bug
+    outcome_of([ROOT / "examples" / "relay.py", "--bug", bug, logs])
+    return logs
+
+
+class Bugs(support.TestCase):
+    """What the page of a wrong hub shows: two agents, and a port that is sent."""
+
+    # By bug: the entry of the finding, the wrong ones, and what is said of the order.
+    WANTED = {
+        "lost": ('put3"one"', ["put", "put", "put"], "one that could be"),
+        "owner": ('got3"one"', ["got"], "a guess"),
+        "order": ('got3"two"', ["got"], "a guess"),
+    }
+
+    def test_bugs(self):
+        with tempfile.TemporaryDirectory(prefix="a folder ") as folder:
+            for bug, (entry, wrong, order) in self.WANTED.items():
+                with self.subTest(bug=bug):
+                    reader = Reader(outcome_of([VIEW, recorded(folder, bug)]).output)
+                    data = reader.data()
+                    self.assertEqual(data["agents"], ["agent 0, ada", "agent 1, ben"])
+                    finding, = data["findings"]
+                    word, _, end, *_, body, _ = data["entries"][finding["row"]]
+                    shown = f'{["put", "got"][word]}{end}{data["bodies"][body]}'
+                    self.assertEqual(shown, entry)
+                    styles = [it["class"].split()[1] for it in reader.of_class("wrong")
+                              if "entry" in it["class"]]
+                    self.assertEqual(styles, wrong)
+                    texts = " ".join(text for _, text in reader.texts)
+                    self.assertIn(f"{bug}: 2 agents, ", texts)
+                    self.assertIn(f"Order between agents: {order}; logs have no times.", texts)
+        self.says(len(self.WANTED), "bugs", 3)
+
+    def test_lost_before_its_move(self):
+        """What was lost stands above the adoption behind which it is missing, not below."""
+        with tempfile.TemporaryDirectory(prefix="a folder ") as folder:
+            data = Reader(outcome_of([VIEW, recorded(folder, "lost")]).output).data()
+        words = [entry[0] for entry in data["entries"]]
+        self.assertEqual(words[:3], [PUT] * 3)
+        self.assertGreater(words.index(ADOPTED), 3)
+        # Here the order is a guess.
+        data = Reader(made(LOST_ON_ITS_WAY).output).data()
+        order = [(entry[0], entry[2], *entry[5:6]) for entry in data["entries"]]
+        self.assertLess(order.index((PUT, 17, "0:1")), order.index((ADOPTED, 17, 2)))
+        self.says(2, "orders")
+
+    def test_older_queues(self):
+        """Also where the order is a guess, what is put in the older queues of an end stands above
+        the adoption that ends them."""
+        put = "".join(f"put 2 0 {epoch}:0 - {epoch}\n" for epoch in range(4))
+        moves = "".join(f"adopted 2 {epoch}\n" for epoch in range(1, 4))
+        for twice in ("", "got 2 0 0:0 - 0\ngot 2 0 0:0 - 0\n"):
+            data = Reader(made(f"hublog 3\nagent 0\n{moves}{twice}agent 1\n{put}").output).data()
+            order = [(entry[0], entry[5]) for entry in data["entries"] if entry[0] != GOT]
+            wanted = [(PUT, "0:0"), (ADOPTED, 1), (PUT, "1:0"), (ADOPTED, 2), (PUT, "2:0")]
+            self.assertEqual(order[:5], wanted)
+        self.says(2, "orders")
+
+    def test_channels(self):
+        """The two ports of a channel have one colour, and other ends have others."""
+        with tempfile.TemporaryDirectory(prefix="a folder ") as folder:
+            reader = Reader(outcome_of([VIEW, recorded(folder, "order")]).output)
+        ends = [entry[2] for entry in reader.data()["entries"]]
+        colours = [re.search(r"\bc\d", it["class"])[0] for it in reader.of_class("entry")]
+        by_end = {end: {c for e, c in zip(ends, colours) if e == end} for end in set(ends)}
+        self.assertEqual(by_end[2], by_end[3])
+        self.assertNotEqual(by_end[1], by_end[3])
+        self.says(len(colours), "entries", 13)
 
 
 @needs_chromium
@@ -412,10 +491,31 @@ class Browsed(support.TestCase):
         self.assertIn("Gap", page.value("document.querySelector('.verdict').textContent"))
         page.value("document.getElementById('back').click()")
         self.assertNotEqual(self.chosen(page), at_first)
-        page.value("document.getElementById('to-fault').click()")
+        page.value("document.getElementById('to-finding').click()")
         self.assertEqual(self.chosen(page), at_first)
         self.assert_quiet(page)
         self.says(2, "ways to the fault")
+
+    def test_summary(self):
+        """Where no entry is chosen the panel has what was found, and what each end got and left."""
+        logs = recorded(self.path.parent, "lost")
+        self.path.write_bytes(outcome_of([VIEW, logs]).output)
+        page = self.browser.open(self.path)
+        self.assertEqual(self.chosen(page), "1")
+        self.assertIn("Lost at end 3", page.value("document.getElementById('panel').textContent"))
+        page.value("document.getElementById('entries').focus()")
+        page.press("Escape")
+        self.assertEqual(self.chosen(page), None)
+        rows = page.value("[...document.querySelectorAll('#panel tr')].map((row) => "
+                          "[...row.cells].map((cell) => cell.textContent).join(' '))")
+        self.assertEqual(rows, [
+            "End accepted got left closed by", "end 1 1 1 0 ", "end 2 1 1 0 agent 0, ada",
+            "end 3 3 0 3 agent 1, ben",
+        ])
+        page.value("document.querySelector('#panel button').click()")
+        self.assertEqual(self.chosen(page), "1")
+        self.assert_quiet(page)
+        self.says(len(rows), "rows")
 
     def test_narrow_and_dark(self):
         """At 400 pixels nothing is wider than the page; dark text stands on dark ground nowhere."""

@@ -4,8 +4,10 @@ A session is a block that begins with ```console. Each text line `$ COMMAND` in 
 what follows up to the next one is the whole output.
 """
 
+import contextlib
 import pathlib
 import re
+import shutil
 import tempfile
 
 import support
@@ -13,11 +15,11 @@ from support import PROGRAM, ROOT, outcome_of
 
 PAGE = ROOT / "docs" / "YOUR_HUB.md"
 BLOCK = re.compile(r"^```(\w+)\n(.*?)^```$", re.MULTILINE | re.DOTALL)
-# A note, where the program isn't built in this checkout: it is named to the test by --program.
-NOTE = b"tools/explain: no program is built, so tools/judge judges\n"
-# What ends with another status than 0: a fault was found, or no step file.
+# The example has no notices, which steps-of says.
+NO_NOTICES = b"tools/steps-of: the logs have no notices, and the step lines put some\n"
+# What ends with another status than 0: something was found.
 STATUSES = {
-    "./messagehub check < run.log": 1, "tools/explain run.log": 1, "tools/steps-of run.log": 1,
+    "tools/report lost": 1, "tools/report owner": 1, "tools/report order": 1,
 }
 
 
@@ -33,30 +35,59 @@ def commands():
             yield command, output
 
 
+def told(output):
+    """An output without who judged, which depends on what is built in this checkout."""
+    output = output if isinstance(output, bytes) else output.encode()
+    return re.sub(rb"^Judged by tools/report.*$", b"Judged.", output, flags=re.MULTILINE)
+
+
 class Page(support.TestCase):
     """What the page shows is what a reader gets."""
 
-    def test_commands(self):
+    @contextlib.contextmanager
+    def folder(self):
+        """A folder in which the commands of the page work."""
         with tempfile.TemporaryDirectory(prefix="your hub ") as folder:
-            folder, count = pathlib.Path(folder), 0
+            folder = pathlib.Path(folder)
             for name in ("examples", "record", "tools"):
                 (folder / name).symlink_to(ROOT / name)
             launcher = folder / "messagehub"
             launcher.write_text(f'#!/bin/sh\nexec "{PROGRAM}" "$@"\n', "utf-8")
             launcher.chmod(0o755)
+            yield folder
+
+    def test_commands(self):
+        count = 0
+        with self.folder() as folder:
             for command, output in commands():
                 with self.subTest(command=command):
                     found = outcome_of(["bash", "-c", command], cwd=folder)
-                    self.assertIsNone(support.first_difference(found.output, output.encode()))
+                    self.assertIsNone(support.first_difference(told(found.output), told(output)))
                     self.assertEqual(found.status, STATUSES.get(command, 0), found.errors)
-                    self.assertIn(found.errors, (b"", NOTE))
+                    self.assertIn(found.errors, (b"", NO_NOTICES))
                     count += 1
-            self.assertGreater((folder / "run.html").stat().st_size, 1_000)
-        self.says(count, "commands", 14)
+            self.assertGreater((folder / "order.html").stat().st_size, 1_000)
+        self.says(count, "commands", 12)
+
+    def test_ci(self):
+        """The lines for CI end with 0 where the hub is right, and else where one fails."""
+        script, = blocks("sh")
+        with self.folder() as folder:
+            for bug, wanted in [("", 0), ("--bug lost ", 1), ("--bug order ", 1)]:
+                lines = script.replace("examples/relay.py ", f"examples/relay.py {bug}")
+                found = outcome_of(["bash", "-c", lines], cwd=folder)
+                self.assertEqual(found.status, wanted, found)
+                shutil.rmtree(folder / "ci")
+            # A step that fails ends the job, also where the pipe behind it is content.
+            no_logs = script.replace("report ci", "report --help").replace("merge ci", "merge x")
+            for lines in (script.replace("relay.py ci", "relay.py none/ci"), no_logs):
+                found = outcome_of(["bash", "-c", lines], cwd=folder)
+                self.assertEqual(found.status, 2, found)
+        self.says(5, "jobs")
 
     def test_code(self):
         """The code of the page stands in the example."""
-        example = (ROOT / "examples" / "chat.py").read_text("utf-8")
+        example = (ROOT / "examples" / "relay.py").read_text("utf-8")
         codes = blocks("python")
         for code in codes:
             self.assertIn(code, example)

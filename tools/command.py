@@ -5,10 +5,29 @@ pipe, or presses Ctrl-C, ends a command by that signal, with no traceback.
 """
 
 import argparse
+import pathlib
+import re
 import signal
 import sys
 
 FAILED = 2
+CHANGES = pathlib.Path(__file__).resolve().parent.parent / "CHANGELOG.md"
+
+
+def version():
+    """The version of all that is here: the newest one of CHANGELOG.md. May raise OSError."""
+    return re.search(r"^## ([0-9.]+)", CHANGES.read_text(encoding="utf-8"), re.MULTILINE)[1]
+
+
+class Version(argparse.Action):
+    """Prints the version and ends the command."""
+
+    def __init__(self, option_strings, dest):
+        super().__init__(option_strings, dest, nargs=0, help="print the version, and end")
+
+    def __call__(self, parser, *_rest):
+        write_lines([f"{parser.prog} {version()}"])
+        parser.exit()
 
 
 def count_of(word):
@@ -35,6 +54,7 @@ class Parser(argparse.ArgumentParser):
             formatter_class=argparse.RawDescriptionHelpFormatter,
             allow_abbrev=False,
         )
+        self.add_argument("--version", action=Version)
 
     def add_logs(self):
         self.add_argument(

@@ -12,20 +12,15 @@ import collections
 import dataclasses
 import functools
 import json
-import re
 
 import hubscript
+import weburl
 from machine import MOST_ENDS
 
 # Origins show only where a broadcast channel is made.
 ORIGIN = "https://hub.example"
 # By the kind of an agent, the step line that makes its queue.
 STEPS = {"window": "client", "worker": "worker"}
-# What the URL Standard leaves out of account at both ends of a URL, and anywhere.
-CONTROLS = "".join(map(chr, range(0x21)))
-IGNORED = re.compile("[\t\n\r]")
-# Schemes, each with the slashes behind it, and what stands before the path.
-AUTHORITY = re.compile(r"(?:[^/\\?#:]*:[/\\]*)*[^/\\?#]*")
 
 
 @dataclasses.dataclass
@@ -67,17 +62,12 @@ class Ends:
 
 def of_script(data):
     """The ends that a script declares. hubscript.BadScript tells the first bad line."""
-    found = hubscript.declarations(data)
+    found = hubscript.read(data)
     makings = [f"{STEPS[it.kind]} {agent}" for agent, it in enumerate(found.agents)]
     makings += [f"channel {it.agent}" for it in found.channels]
     makings += [f"member {it.agent} {json.dumps(it.on)}" for it in found.members]
-    origins = [origin_of(it.origin) for it in found.agents]
+    origins = [weburl.origin_of(it.origin) for it in found.agents]
     return Ends(origins, makings, found.end_count(), False)
-
-
-def origin_of(url):
-    """As much of a URL as its origin needs. No more fits into a step line, where it has a space."""
-    return AUTHORITY.match(IGNORED.sub("", url.strip(CONTROLS)))[0]
 
 
 # Of logs
@@ -216,11 +206,30 @@ def ways_of(evidence, end, fits):
         ways.append(True)
     if evidence.may_stand_alone(end) and fits[end + 1]:
         ways.append(False)
-    is_linked_here = frozenset([end, end + 1]) in evidence.linked
-    is_linked_behind = end + 1 in evidence.ports and evidence.may_pair(end + 1)
-    if is_linked_behind and not is_linked_here and end not in evidence.ports:
+    if is_next_likelier(evidence, end):
         ways.reverse()
     return ways
+
+
+def is_next_likelier(evidence, end):
+    """Whether the next end is rather the first one of two ports than this one is."""
+    if frozenset([end, end + 1]) in evidence.linked or end in evidence.ports:
+        return False
+    # A port whose other neighbour shows nowhere most likely belongs to this end.
+    if end in evidence.mentioned and end + 2 not in evidence.mentioned:
+        return False
+    return end + 1 in evidence.ports and evidence.may_pair(end + 1)
+
+
+def likely_peers(goal):
+    """By port, the other port of its channel, as logs make it likely, end by end."""
+    evidence, peers = Evidence(goal, True), {}
+    for end in sorted(evidence.mentioned):
+        is_port = end in evidence.ports or end + 1 in evidence.ports
+        is_pair = end not in peers and is_port and evidence.may_pair(end)
+        if is_pair and not is_next_likelier(evidence, end):
+            peers.update({end: end + 1, end + 1: end})
+    return peers
 
 
 def forced_pairs(evidence):

@@ -36,6 +36,7 @@ class BadInput(Exception):
 
     def __init__(self, line, kind):
         super().__init__(f"line {line}: {kind}")
+        self.line, self.kind = line, kind
 
 
 class NotThis(Exception):
@@ -58,6 +59,10 @@ class Entry:
     def name(self):
         return self.epoch, self.number
 
+    def key(self):
+        """What tells it from all others: its end, its line and its name."""
+        return self.end, self.line, self.epoch, self.number
+
 
 class Log:
     """What one agent logged: pairs of a word and what stands behind it, in order.
@@ -68,6 +73,15 @@ class Log:
     def __init__(self, agent):
         self.agent = agent
         self.entries, self.places = [], []
+
+    def without(self, left_out):
+        """The log without the entries at some text lines."""
+        other = Log(self.agent)
+        for entry, at in zip(self.entries, self.places):
+            if at not in left_out:
+                other.entries.append(entry)
+                other.places.append(at)
+        return other
 
 
 # Bodies
@@ -93,6 +107,12 @@ def refuse(_constant):
 
 class Pairs(list):
     """The members of an object as they stand in the text, equal keys among them."""
+
+
+DECODER = json.JSONDecoder(
+    object_pairs_hook=Pairs, parse_int=whole, parse_float=fraction, parse_constant=refuse
+)
+ENCODER = json.JSONEncoder(ensure_ascii=False, separators=(",", ":"), sort_keys=True)
 
 
 def nesting_in(text):
@@ -153,13 +173,7 @@ def json_of(text):
     if nesting_in(text) > MOST_NESTING_READ:
         raise NotThis
     try:
-        value = json.loads(
-            text,
-            object_pairs_hook=Pairs,
-            parse_int=whole,
-            parse_float=fraction,
-            parse_constant=refuse,
-        )
+        value = DECODER.decode(text)
     except ValueError:
         raise NotThis from None
     check_texts(value)
@@ -171,7 +185,7 @@ def compact_body(text):
     if text.startswith(" "):
         raise NotThis
     value = profile_of(json_of(text), 0)
-    return json.dumps(value, ensure_ascii=False, separators=(",", ":"), sort_keys=True)
+    return ENCODER.encode(value)
 
 
 # Log lines
@@ -244,7 +258,11 @@ def lines_of(data):
 
 def read_logs(data):
     """The logs that the bytes spell. BadInput tells the first bad line."""
-    lines = lines_of(data)
+    return logs_of(lines_of(data))
+
+
+def logs_of(lines):
+    """The logs that the text lines spell."""
     if not lines:
         return []
     form = FORMS.get(lines[0])
@@ -316,41 +334,64 @@ def got_lists(logs):
     return found
 
 
-def kind_at(place, entry, is_late, accepted, names, noticed, earlier):
-    """What is wrong with an entry at a place, or None."""
-    if is_late:
-        return "AfterClose"
-    if noticed:
-        return "AfterNotice"
-    expected = accepted[place] if place < len(accepted) else None
-    if expected is not None and expected.name() == entry.name():
-        return None if expected.content == entry.content else "Changed"
-    if entry.name() in earlier:
-        return "Twice"
-    at = bisect.bisect_left(names, entry.name())
-    return "Gap" if at < len(names) and names[at] == entry.name() else "Foreign"
+class LineJudge:
+    """Judges what is got on one line, one entry after another, and goes on behind each fault.
+
+    `due` is the place in the accepted list of what is next. An entry with that name moves it on by
+    one, and so does a Changed one. Behind a Gap it stands behind what came: what was passed over
+    may still come, and is no other fault then. Twice and Foreign leave it where it is. Whatever
+    comes behind the close, or behind the notice, is a fault of that kind.
+    """
+
+    def __init__(self, accepted):
+        self.accepted, self.due = accepted, 0
+        self.names = [entry.name() for entry in accepted]
+        self.earlier, self.is_noticed = set(), False
+
+    def kind_of(self, entry, is_late):
+        """What is wrong with the next entry that was got, or None."""
+        kind = self.kind_here(entry, entry.name(), is_late)
+        self.is_noticed = self.is_noticed or entry.content is None
+        self.earlier.add(entry.name())
+        return kind
+
+    def kind_here(self, entry, name, is_late):
+        if is_late:
+            return "AfterClose"
+        if self.is_noticed:
+            return "AfterNotice"
+        if self.due < len(self.names) and self.names[self.due] == name:
+            self.due += 1
+            return self.changed(entry, self.due - 1)
+        if name in self.earlier:
+            return "Twice"
+        at = bisect.bisect_left(self.names, name, self.due)
+        if at < len(self.names) and self.names[at] == name:
+            self.due = at + 1
+            return "Gap"
+        at = bisect.bisect_left(self.names, name, 0, self.due)
+        is_passed = at < self.due and self.names[at] == name
+        return self.changed(entry, at) if is_passed else "Foreign"
+
+    def changed(self, entry, at):
+        return None if self.accepted[at].content == entry.content else "Changed"
 
 
-def fault_of_line(got, accepted):
-    """The first place of a line where something is wrong, and what, or None."""
-    names = [entry.name() for entry in accepted]
-    noticed, earlier = False, set()
+def faults_of_line(got, accepted):
+    """All that is wrong on a line: the place, the kind, and where what is next stood before it."""
+    line = LineJudge(accepted)
     for place, (entry, is_late) in enumerate(got):
-        kind = kind_at(place, entry, is_late, accepted, names, noticed, earlier)
+        due = line.due
+        kind = line.kind_of(entry, is_late)
         if kind is not None:
-            return place, kind
-        noticed = noticed or entry.content is None
-        earlier.add(entry.name())
-    return None
+            yield place, kind, due
 
 
 def judge(logs):
     """The verdict line, without its LF."""
     accepted = accepted_lists(logs)
     for (end, line), got in sorted(got_lists(logs).items()):
-        fault = fault_of_line(got, accepted.get((end, line), []))
-        if fault is not None:
-            place, kind = fault
+        for place, kind, _ in faults_of_line(got, accepted.get((end, line), [])):
             return f"fault {end} {line} {place} {kind}"
     return "clean"
 

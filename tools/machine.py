@@ -1,12 +1,13 @@
-"""The state machine behind step lines, as far as tools/steps-of needs it: see docs/FORMATS.md.
+"""The state machine behind step lines, for tools/steps-of and tools/why: see docs/FORMATS.md.
 
-`Machine.do` takes a step line and gives its outcome line. It knows all step lines but `look`,
-`order`, `see` and `event`; no agent ends, memory is never refused, and what isn't well formed isn't
-told from what is. `happened` has what the last step line did, in the words of logs.
+`Machine.do` takes a step line that is well formed and gives its outcome line. Bodies are taken for
+compact text, and of an event it knows only whether it is `not-now`. `happened` has what the last
+step line did, in the words of logs, and `why` the test that failed where it was `not-now`.
 """
 
 import typing
-import urllib.parse
+
+import weburl
 
 MOST_AGENTS = 16
 MOST_ENDS = 65_536
@@ -17,14 +18,22 @@ QUEUE_LINES = 32
 
 # Where a poster is.
 OUT, INSIDE, TURNED = "out", "inside", "turned"
-# Where an end is: an agent has it, it is on its way, it has arrived, its envelope was discarded.
+PHASES = {OUT: "out", INSIDE: "inside", TURNED: "being turned back"}
+# Where an end is: an agent has it, it is on its way, it has arrived, its envelope was discarded. Of
+# a closed one this is where it was.
 WITH, FLIGHT, ARRIVED, DISCARDED = "with", "flight", "arrived", "discarded"
-
-DEFAULT_PORTS = {"http": 80, "https": 443, "ws": 80, "wss": 443, "ftp": 21}
+NOT_NOW = "not-now"
 
 
 class Refused(Exception):
-    """A test of a step failed, with this outcome."""
+    """A test of a step failed, with this outcome. `why` has the test, and `parts` what it names."""
+
+    def __init__(self, outcome, why="", *parts):
+        super().__init__(outcome)
+        self.why, self.parts = why, parts
+
+    def told(self):
+        return self.why.format(*self.parts)
 
 
 class Envelope(typing.NamedTuple):
@@ -52,11 +61,11 @@ class Happened(typing.NamedTuple):
 class Queue:
     """One queue of an end: what waits there, and how many envelopes each line has put."""
 
-    def __init__(self, waiting=(), counts=()):
-        self.waiting, self.counts = list(waiting), dict(counts)
+    def __init__(self, waiting=(), counts=(), is_clear=False):
+        self.waiting, self.counts, self.is_clear = list(waiting), dict(counts), is_clear
 
     def copy(self):
-        return Queue(self.waiting, self.counts)
+        return Queue(self.waiting, self.counts, self.is_clear)
 
 
 class Line:
@@ -102,8 +111,28 @@ class End:
         return len(self.queues) - 1
 
     def is_away_at(self, epoch):
-        """Whether a poster is inside or being turned back at that queue."""
+        """Whether a poster is inside or being turned back at that queue, where it isn't clear."""
+        if self.queues[epoch].is_clear:
+            return False
         return any(line.phase != OUT and line.stand == epoch for line in self.lines)
+
+    def is_held(self):
+        """Whether an agent has it."""
+        return self.place == WITH and not self.is_closed
+
+    def where(self):
+        """Where it is."""
+        if self.is_closed:
+            return f"end {self.number} is closed"
+        return {
+            WITH: "agent {1} has end {0}", FLIGHT: "end {0} is on its way",
+            ARRIVED: "end {0} has arrived at agent {1}",
+            DISCARDED: "the envelope that named end {0} was discarded",
+        }[self.place].format(self.number, self.agent)
+
+    def what(self):
+        """What it is."""
+        return f"end {self.number} is a {CALLED[self.kind]}"
 
     def next_name(self, line):
         """The epoch and the number of what the line would put where it stands."""
@@ -120,28 +149,33 @@ class End:
         return None
 
 
-def origin_of(url):
-    """The origin of a URL, None of `-`."""
-    if url == "-":
-        return None
-    parts = urllib.parse.urlsplit(url)
-    return parts.scheme, parts.hostname, parts.port or DEFAULT_PORTS.get(parts.scheme)
-
-
 def list_of(word):
     return () if word == "-" else tuple(map(int, word.split(",")))
 
 
-def need(holds, outcome="not-now"):
+def need(holds, why, *parts):
+    """Refuses the step unless the test holds."""
+    if not holds:
+        raise Refused(NOT_NOW, why, *parts)
+
+
+def expect(holds, outcome):
+    """Gives the outcome unless the test holds."""
     if not holds:
         raise Refused(outcome)
 
 
+# What an end is called.
+CALLED = {
+    "port": "port", "client": "client queue", "worker": "worker queue",
+    "member": "broadcast channel",
+}
 # By step line: how many words stand behind the first one.
 ARITY = {
     "agent": 1, "channel": 1, "client": 1, "worker": 1, "member": 2, "line": 2, "back": 1,
     "enter": 1, "push": 3, "leave": 1, "hop": 1, "post": 3, "start": 1, "loaded": 1, "take": 1,
-    "hand": 2, "adopt": 2, "close": 1, "sweep": 1, "cast": 3, "part": 1,
+    "look": 1, "hand": 2, "adopt": 2, "close": 1, "sweep": 1, "cast": 3, "part": 1,
+    "order": 1, "see": 1, "event": 2,
 }
 
 
@@ -154,11 +188,15 @@ class Machine:
         self.roster = []
         # The agent whose cast goes to a broadcast channel now.
         self.caster = None
+        # The agents that were asked to end, those that end, and those that have had a life.
+        self.ordered = self.ending = self.living = frozenset()
+        self.has_memory, self.why = True, None
 
     def copy(self, numbers):
         """A copy that shares all ends but those of these numbers."""
         other = Machine()
         other.origins, other.roster = list(self.origins), list(self.roster)
+        other.ordered, other.ending, other.living = self.ordered, self.ending, self.living
         other.ends = list(self.ends)
         for number in numbers:
             other.ends[number] = other.ends[number].copy()
@@ -166,45 +204,93 @@ class Machine:
 
     def do(self, text):
         """The outcome of a step line."""
-        self.happened = []
+        self.happened, self.why = [], None
+        self.has_memory = not text.startswith("!")
+        text = text.removeprefix("!")
         word, *rest = text.split(" ", ARITY[text.partition(" ")[0]])
         try:
             return getattr(self, "do_" + word)(*rest)
         except Refused as refused:
+            if str(refused) == NOT_NOW:
+                self.why = refused.told()
             return str(refused)
 
     # What words name
 
     def end(self, word):
         number = int(word)
-        need(number < len(self.ends))
+        need(number < len(self.ends), "there is no end {}", number)
         return self.ends[number]
 
     def agent(self, word):
-        need(int(word) < len(self.origins))
+        need(int(word) < len(self.origins), "there is no agent {}", word)
         return int(word)
+
+    def running(self, word):
+        """The agent, which runs."""
+        agent = self.agent(word)
+        need(agent not in self.ending, "agent {} runs no more: `see` showed it `ending`", agent)
+        return agent
 
     def poster(self, word):
         """The end and the number of the line to which a poster posts."""
         number, slash, line = word.partition("/")
         end = self.end(number)
         if not slash:
-            need(end.kind == "port")
+            need(end.kind == "port", "{}, with posters {}/0 and so on", end.what(), end.number)
             return self.ends[end.peer], 0
-        need(end.kind != "port" and int(line) < len(end.lines))
+        need(end.kind != "port", "{}, with poster {}", end.what(), end.number)
+        need(int(line) < len(end.lines), "end {} has no line {}", end.number, line)
         return end, int(line)
 
-    def speaker(self, end, line):
-        """The agent that holds a line, or None."""
-        if end.kind == "port":
-            peer = self.ends[end.peer]
-            return peer.agent if peer.place == WITH else None
-        return end.lines[line].holder if end.is_queue() else self.caster
+    def source(self, end):
+        """The port that posts to a port."""
+        return self.ends[end.peer]
 
-    def may_enter(self, end, line):
-        if self.speaker(end, line) is not None:
-            return True
-        return end.kind == "port" and self.ends[end.peer].place in (ARRIVED, DISCARDED)
+    def speaker(self, end, line):
+        """The running agent that holds a line, or None."""
+        agent = end.lines[line].holder if end.is_queue() else self.caster
+        if end.kind == "port":
+            agent = self.source(end).agent if self.source(end).is_held() else None
+        return None if agent in self.ending else agent
+
+    def need_speaker(self, end, at):
+        if self.speaker(end, at) is None:
+            raise Refused(NOT_NOW, "{}", self.why_silent(end, at))
+
+    def why_silent(self, end, at):
+        """Why no running agent holds a line."""
+        if end.kind == "member":
+            return f"{end.what()}, by whose line only a `cast` posts"
+        if end.kind == "port" and not self.source(end).is_held():
+            return self.source(end).where()
+        agent = self.source(end).agent if end.kind == "port" else end.lines[at].holder
+        if agent is None:
+            return f"no agent holds line {at} of end {end.number}"
+        return f"agent {agent}, which holds the line, runs no more"
+
+    def need_entry(self, end, at):
+        """Tests that a poster may enter, if only to put a notice."""
+        if end.kind == "port":
+            source = self.source(end)
+            if source.place == FLIGHT or source.is_closed:
+                raise Refused(NOT_NOW, "{}", source.where())
+        else:
+            self.need_speaker(end, at)
+
+    def need_phase(self, end, at, *phases):
+        phase = end.lines[at].phase
+        need(phase in phases, "the poster is {}, not {}", PHASES[phase],
+             " or ".join(PHASES[it] for it in phases))
+
+    def need_no_notice(self, end, at):
+        need(not end.lines[at].is_noticed, "end {} has put its notice", end.peer)
+
+    def need_owner(self, end):
+        """Tests that a running agent has the end."""
+        if end.place != WITH:
+            raise Refused(NOT_NOW, "{}", end.where())
+        self.running(end.agent)
 
     def own_line(self, port):
         """The line at which a port posts."""
@@ -213,38 +299,47 @@ class Machine:
     # Making
 
     def do_agent(self, url):
-        need(len(self.origins) < MOST_AGENTS, "too-many-agents")
-        self.origins.append(origin_of(url))
+        try:
+            origin = None if url == "-" else weburl.origin_of(url)
+        except weburl.OpaqueOrigin:
+            return "opaque-origin"
+        except weburl.BadUrl:
+            return "bad-url"
+        expect(self.has_memory, "no-memory")
+        expect(len(self.origins) < MOST_AGENTS, "too-many-agents")
+        self.origins.append(origin)
         return f"agent {len(self.origins) - 1}"
 
     def make(self, kind, agent, count=1):
-        need(len(self.ends) + count <= MOST_ENDS, "too-many-ends")
+        expect(len(self.ends) + count <= MOST_ENDS, "too-many-ends")
+        expect(self.has_memory, "no-memory")
         made = [End(len(self.ends) + at, kind, agent) for at in range(count)]
         self.ends += made
         return made
 
     def do_channel(self, agent):
-        one, other = self.make("port", self.agent(agent), 2)
+        one, other = self.make("port", self.running(agent), 2)
         one.peer, other.peer = other.number, one.number
         return f"ends {one.number} {other.number}"
 
     def make_queue(self, kind, word):
-        agent = self.agent(word)
-        need(not any(
-            end.kind == kind and end.agent == agent and end.place == WITH and not end.is_closed
-            for end in self.ends
-        ))
-        return f"end {self.make(kind, agent)[0].number}"
+        agent = self.running(word)
+        for end in self.ends:
+            need(end.kind != kind or end.agent != agent or not end.is_held(),
+                 "agent {} has end {}, a {}", agent, end.number, CALLED[kind])
+        return self.make(kind, agent)[0].number
 
     def do_client(self, agent):
-        return self.make_queue("client", agent)
+        return f"end {self.make_queue('client', agent)}"
 
     def do_worker(self, agent):
-        return self.make_queue("worker", agent)
+        made = self.make_queue("worker", agent)
+        self.living |= {int(agent)}
+        return f"end {made}"
 
     def do_member(self, word, name):
-        agent = self.agent(word)
-        need(self.origins[agent] is not None, "no-origin")
+        agent = self.running(word)
+        expect(self.origins[agent] is not None, "no-origin")
         end = self.make("member", agent)[0]
         end.key = (self.origins[agent], name)
         self.roster.append(end.number)
@@ -253,34 +348,39 @@ class Machine:
     # Lines
 
     def do_line(self, word, agent):
-        agent = self.agent(agent)
-        need(int(word) < len(self.ends) and self.ends[int(word)].is_queue(), "no-such-end")
+        agent = self.running(agent)
+        is_queue = int(word) < len(self.ends) and self.ends[int(word)].is_queue()
+        expect(is_queue, "no-such-end")
         lines = self.ends[int(word)].lines
         free = next((at for at, line in enumerate(lines) if line.holder is None), None)
-        need(free is not None, "no-line")
+        expect(free is not None, "no-line")
         lines[free].holder = agent
         return f"line {free}"
 
     def do_back(self, word):
-        end, line = self.poster(word)
-        need(end.is_queue() and end.lines[line].holder is not None)
-        need(end.lines[line].phase == OUT)
-        end.lines[line].holder = None
+        end, at = self.poster(word)
+        need(end.is_queue(), "{}, no client or worker queue", end.what())
+        need(end.lines[at].holder is not None, "no agent holds line {} of end {}", at, end.number)
+        self.need_phase(end, at, OUT)
+        end.lines[at].holder = None
         return "done"
 
     # Posting
 
     def enter(self, end, at):
         line = end.lines[at]
-        need(self.may_enter(end, at) and line.phase == OUT and not line.is_noticed)
+        self.need_entry(end, at)
+        self.need_phase(end, at, OUT)
+        self.need_no_notice(end, at)
         line.phase = TURNED
-        need(line.stand == end.newest(), "moved")
-        need(not end.is_closed, "closed")
+        expect(line.stand == end.newest(), "moved")
+        expect(not end.is_closed, "closed")
         line.phase = INSIDE
         return "in"
 
     def put(self, end, at, ports, body):
         """Puts an envelope where the line's poster stands, which is inside."""
+        expect(self.has_memory, "no-memory")
         line = end.lines[at]
         envelope = Envelope(at, *end.next_name(at), ports, body)
         queue = end.queues[line.stand]
@@ -293,19 +393,33 @@ class Machine:
         self.happened.append(Happened("put", end.number, envelope))
         return f"accepted {envelope.name()}"
 
-    def may_send(self, ports, end, at):
-        """Whether the agent that posts on a line may send these ports there."""
+    def need_sendable(self, ports, end, at):
+        """Tests that the agent that posts on a line may send these ports there."""
         agent = self.speaker(end, at)
-        return len(set(ports)) == len(ports) and all(
-            number < len(self.ends) and self.is_sendable(self.ends[number], agent)
-            and not (end.kind == "port" and number == end.peer) for number in ports
-        )
+        for place, number in enumerate(ports):
+            port = self.end(number)
+            need(number not in ports[:place], "end {} stands twice in the list", number)
+            need(port.kind == "port", "{}, no port", port.what())
+            need(end.kind != "port" or number != end.peer, "end {} is the port that posts", number)
+            if not self.is_sendable(port, agent):
+                raise Refused(NOT_NOW, "{}", self.why_kept(port, agent))
 
     def is_sendable(self, port, agent):
-        if port.kind != "port" or port.place != WITH or port.agent != agent or port.is_closed:
+        if port.kind != "port" or not port.is_held() or port.agent != agent:
             return False
         own = self.own_line(port)
         return own.phase == OUT and not own.is_noticed
+
+    def why_kept(self, port, agent):
+        """Why an agent may not send a port."""
+        if not port.is_held():
+            return port.where()
+        if port.agent != agent:
+            return f"{port.where()}, not agent {agent}"
+        own = self.own_line(port)
+        if own.is_noticed:
+            return f"end {port.number} has put its notice"
+        return f"the poster of end {port.number} is {PHASES[own.phase]}, not out"
 
     def attempt(self, end, at, ports, body):
         """Enters, puts and leaves, with at most four hops. Gives what it comes to."""
@@ -315,10 +429,10 @@ class Machine:
                 self.enter(end, at)
                 return self.put(end, at, ports, body)
             except Refused as refused:
+                if str(refused) in ("closed", "no-memory"):
+                    return str(refused)
                 if line.phase != TURNED:
                     raise
-                if str(refused) == "closed":
-                    return "closed"
             finally:
                 line.phase = OUT
             if hops == MOST_HOPS:
@@ -331,33 +445,38 @@ class Machine:
 
     def do_push(self, word, ports, body):
         end, at = self.poster(word)
-        ports, line = list_of(ports), end.lines[at]
-        need(line.phase == INSIDE and not line.is_noticed)
-        need(self.speaker(end, at) is not None)
-        need(len(ports) <= MOST_PORTS, "too-many-ports")
-        need(self.may_send(ports, end, at) and end.number not in ports)
+        ports = list_of(ports)
+        self.need_phase(end, at, INSIDE)
+        self.need_no_notice(end, at)
+        self.need_speaker(end, at)
+        expect(len(ports) <= MOST_PORTS, "too-many-ports")
+        self.need_sendable(ports, end, at)
+        need(end.number not in ports, "end {} is the one to which the message goes", end.number)
         return self.put(end, at, ports, body)
 
     def do_leave(self, word):
         end, at = self.poster(word)
-        need(end.lines[at].phase != OUT)
+        self.need_phase(end, at, INSIDE, TURNED)
         end.lines[at].phase = OUT
         return "left"
 
     def do_hop(self, word):
         end, at = self.poster(word)
         line = end.lines[at]
-        need(self.may_enter(end, at) and line.phase == OUT and not line.is_noticed)
-        need(line.stand < end.newest())
+        self.need_entry(end, at)
+        self.need_phase(end, at, OUT)
+        need(line.stand < end.newest(), "its queue, epoch {}, isn't retired", line.stand)
         line.stand += 1
         return f"hopped {line.stand}"
 
     def do_post(self, word, ports, body):
         end, at = self.poster(word)
-        ports, line = list_of(ports), end.lines[at]
-        need(self.speaker(end, at) is not None and line.phase == OUT and not line.is_noticed)
-        need(len(ports) <= MOST_PORTS, "too-many-ports")
-        need(self.may_send(ports, end, at))
+        ports = list_of(ports)
+        self.need_speaker(end, at)
+        self.need_phase(end, at, OUT)
+        self.need_no_notice(end, at)
+        expect(len(ports) <= MOST_PORTS, "too-many-ports")
+        self.need_sendable(ports, end, at)
         if end.number in ports:
             for number in ports:
                 self.close(self.ends[number])
@@ -368,25 +487,26 @@ class Machine:
 
     def do_start(self, word):
         end = self.end(word)
-        need(not end.is_closed, "closed")
-        need(end.place == WITH)
+        expect(not end.is_closed, "closed")
+        self.need_owner(end)
         end.is_enabled = True
         return "started"
 
     def do_loaded(self, word):
-        need(self.end(word).kind == "client")
+        end = self.end(word)
+        need(end.kind == "client", "{}, no client queue", end.what())
         return self.do_start(word)
 
     def do_take(self, word):
         end = self.end(word)
-        need(not end.is_closed, "closed")
-        need(end.place == WITH)
-        need(end.is_enabled, "disabled")
+        expect(not end.is_closed, "closed")
+        self.need_owner(end)
+        expect(end.is_enabled, "disabled")
         queue = end.queues[end.stage]
         if queue.waiting:
             return self.got(end, queue.waiting.pop(0))
-        need(end.stage < end.newest(), "empty")
-        need(not end.is_away_at(end.stage), "busy")
+        expect(end.stage < end.newest(), "empty")
+        expect(not end.is_away_at(end.stage), "busy")
         end.stage += 1
         return "again"
 
@@ -400,18 +520,36 @@ class Machine:
         ports = f" with {','.join(map(str, envelope.ports))}" if envelope.ports else ""
         return f"got {origin}{ports} {envelope.body}"
 
+    def do_look(self, word):
+        end = self.end(word)
+        last = len(end.queues) if end.is_closed else end.newest()
+        need(end.stage < last, "end {} is open, and its taker stands at the newest queue",
+             end.number)
+        unclear = [it for it in range(end.stage, last) if not end.queues[it].is_clear]
+        if unclear:
+            expect(not end.is_away_at(unclear[0]), "busy")
+            end.queues[unclear[0]].is_clear = True
+        return "clear"
+
     def do_hand(self, word, agent):
-        end, agent = self.end(word), self.agent(agent)
-        need(not end.is_closed, "closed")
-        need(end.is_queue() and end.place == WITH and end.agent != agent)
+        end = self.end(word)
+        expect(not end.is_closed, "closed")
+        need(end.is_queue(), "{}, no client or worker queue", end.what())
+        self.need_owner(end)
+        agent = self.agent(agent)
+        need(end.agent != agent, "agent {} has it", agent)
         end.place, end.agent = ARRIVED, agent
         return "handed"
 
     def do_adopt(self, word, agent):
-        end, agent = self.end(word), self.agent(agent)
-        need(not end.is_closed, "closed")
-        need(end.place == ARRIVED and end.agent == agent)
-        need(end.newest() < MOST_MOVES, "too-many-moves")
+        end = self.end(word)
+        expect(not end.is_closed, "closed")
+        need(end.place == ARRIVED, "{}, so that it has arrived nowhere", end.where())
+        agent = self.agent(agent)
+        need(end.agent == agent, "{}, not at agent {}", end.where(), agent)
+        self.running(agent)
+        expect(end.newest() < MOST_MOVES, "too-many-moves")
+        expect(self.has_memory, "no-memory")
         end.queues.append(Queue())
         end.place, end.is_enabled = WITH, end.kind == "worker"
         self.happened.append(Happened("adopted", end.number, epoch=end.newest()))
@@ -419,29 +557,29 @@ class Machine:
 
     # Closing
 
-    def may_close(self, end):
-        own = self.own_line(end) if end.kind == "port" else None
-        return end.place != FLIGHT and (own is None or own.phase == OUT)
-
     def close(self, end):
         """Closes an end, a port with its notice."""
-        need(not end.is_closed, "closed")
-        need(self.may_close(end))
+        expect(not end.is_closed, "closed")
+        need(end.place != FLIGHT, "{}", end.where())
         answer = ""
-        if end.kind == "port" and not self.own_line(end).is_noticed:
-            answer = self.attempt(self.ends[end.peer], 0, (), None)
+        if end.kind == "port":
+            own = self.own_line(end)
+            need(own.phase == OUT, "the poster of end {} is {}, not out", end.number,
+                 PHASES[own.phase])
+            if not own.is_noticed:
+                answer = self.attempt(self.ends[end.peer], 0, (), None)
         end.is_closed = True
         self.happened.append(Happened("closed", end.number))
-        return "done moving" if answer == "moving" else "done"
+        return f"done {answer}" if answer in ("moving", "no-memory") else "done"
 
     def do_close(self, word):
         return self.close(self.end(word))
 
     def do_sweep(self, word):
         end = self.end(word)
-        need(end.is_closed)
+        need(end.is_closed, "end {} is open", end.number)
         epochs = range(end.stage, len(end.queues))
-        need(not any(map(end.is_away_at, epochs)), "busy")
+        expect(not any(map(end.is_away_at, epochs)), "busy")
         discarded = [it for epoch in epochs for it in end.queues[epoch].waiting]
         for epoch in epochs:
             end.queues[epoch].waiting = []
@@ -464,9 +602,10 @@ class Machine:
 
     def do_cast(self, word, ports, body):
         end = self.end(word)
-        need(end.kind == "member")
-        need(not end.has_parted and not end.is_closed, "invalid-state")
-        need(ports == "-", "not-transferable")
+        need(end.kind == "member", "{}, no broadcast channel", end.what())
+        expect(not end.has_parted and not end.is_closed, "invalid-state")
+        self.running(end.agent)
+        expect(ports == "-", "not-transferable")
         self.caster = end.agent
         answers = [
             f"{other.number} {self.attempt(other, 0, (), body)}"
@@ -477,7 +616,39 @@ class Machine:
 
     def do_part(self, word):
         end = self.end(word)
-        need(end.kind == "member" and not end.has_parted)
+        need(end.kind == "member", "{}, no broadcast channel", end.what())
+        need(not end.has_parted, "end {} has parted", end.number)
         end.has_parted = True
         self.roster.remove(end.number)
         return "done"
+
+    # Ending
+
+    def do_order(self, word):
+        self.ordered |= {self.agent(word)}
+        return "ordered"
+
+    def do_see(self, word):
+        agent = self.agent(word)
+        for end in self.ends:
+            for at, line in enumerate(end.lines):
+                holder = line.holder if end.is_queue() else self.owner_of_poster(end)
+                need(holder != agent or line.phase == OUT,
+                     "the poster of line {} of end {} is {}, not out", at, end.number,
+                     PHASES[line.phase])
+        expect(agent in self.ordered, "going-on")
+        self.ending |= {agent}
+        held = [str(it.number) for it in self.ends
+                if it.place in (WITH, ARRIVED) and not it.is_closed and it.agent == agent]
+        return f"ending {' '.join(held) or 'nothing'}"
+
+    def owner_of_poster(self, end):
+        """The agent that has the port which posts to a port."""
+        if end.kind != "port" or not self.source(end).is_held():
+            return None
+        return self.source(end).agent
+
+    def do_event(self, word, _event):
+        agent = self.agent(word)
+        need(agent in self.living, "agent {} has made no `worker` yet", agent)
+        return "state"

@@ -1,38 +1,33 @@
-"""A run as tools/draw and tools/view show it: its entries in one order, with names for people.
+"""A run as tools/draw and tools/view show it: its entries in one order, and what is wrong.
 
-`read_run` reads logs, and `names_of` a script, both as docs/FORMATS.md defines them. Logs don't say
-how they stand to one another: the order of all entries is chosen here, so that it keeps the order
-of each log and has each `put` above its `got`. Where no order does, some are got above their put.
+Logs don't say how they stand to one another. Of up to 20,000 entries the order is one in which the
+state machine does what the logs say, where tools/explanation.py finds it: an order that could be.
+Else it is a guess, which keeps the order of each log, has each `put` above its `got` where that can
+be, and each adoption below what was put in the older queues. What was lost, or came late, is put as
+early as it can be, since it is often a move that lost it.
 """
 
 import collections
 import dataclasses
-import json
-import unicodedata
 
 import command
-import hublog
+import ends
+import explanation
 import hubscript
+import naming
+import recordings
+import schedule
+import telling
+import verdict
 
-# What the checker's kinds say of an entry.
-KINDS = {
-    "AfterClose": "it comes after its end was closed",
-    "AfterNotice": "it comes after the notice of its line, which is the last",
-    "Changed": "its name is right, but its ports or its body aren't",
-    "Twice": "it was got before",
-    "Gap": "it is not the next one",
-    "Foreign": "nobody put it",
-}
-# What was due there, where it isn't the next one.
-DUE = {
-    "AfterClose": "nothing more was due",
-    "AfterNotice": "nothing more was due",
-    "Changed": "it was put otherwise",
-}
-# Letters that show nothing, or turn the text round them about.
-HIDDEN = frozenset(["Cc", "Cf", "Cn", "Co", "Cs", "Zl", "Zp"])
-WIDE = frozenset("WF")
-NAME_COLUMNS = 64
+# How many entries are ordered by a search, and how many states it may spend.
+MOST_ORDERED = 20_000
+MOST_STATES = 60_000
+# How many findings are shown.
+MOST_FINDINGS = 200
+COLOURS = 8
+# The roles of entries that are wrong.
+WRONG = frozenset(["came", "last", "use", "maker", "got", "again", "first"])
 
 
 # What happened
@@ -80,64 +75,130 @@ class Moment:
 
 
 @dataclasses.dataclass(frozen=True)
-class Fault:
-    """What the checker found wrong: the moment, its place on its line, what is wrong, and due."""
+class Shown:
+    """A finding as it is shown: its moment, the others that are wrong, and its texts.
+
+    `about` has its entries, each with what it is called.
+    """
 
     moment: Moment
-    place: int
-    kind: str
-    due: str
-
-    def short(self):
-        return f"fault: {self.kind}, {self.due}"
-
-    def sentence(self, names):
-        entry = self.moment.said
-        return (
-            f"fault: {self.kind} at {names.end(entry.end)}, line {entry.line}, place {self.place}:"
-            f" {self.moment.name()} at line {self.moment.at} of the input: {KINDS[self.kind]};"
-            f" {self.due}"
-        )
+    others: list
+    title: str
+    brief: str
+    about: list
+    around: list
+    way: list
 
 
-@dataclasses.dataclass(frozen=True)
 class Run:
     """The agents in order of the input, all moments in one order, and what is wrong with them.
 
-    `upward` has the gots that stand above their put, for want of another order.
+    `upward` has the gots that stand above their put, for want of another order. `is_found` tells an
+    order that could be from a guess.
     """
 
-    agents: list
-    moments: list
-    upward: list
-    fault: Fault | None
+    def __init__(self, recording, words, known, names):
+        self.names, self.recording = names, recording
+        self.title = " ".join(map(naming.visible, recording.titles))
+        entries, judged, self.found = verdict.of_recording(
+            recording, known and known.verdict, words.allow_left, words.allow_waiting
+        )
+        self.missing = recording.missing
+        self.agents, lanes = lanes_of(recording.logs)
+        join_messages(lanes)
+        self.moments, self.upward, found_ends = self.ordered(recording.logs, lanes, known)
+        self.is_found = found_ends is not None
+        peers = (found_ends or known.ends).peers() if found_ends or known else (
+            ends.likely_peers(schedule.Goal(recording.logs)))
+        self.channels = channels_of(self.moments, peers)
+        self.findings = self.shown(entries, judged, recording)
+        self.wrong = {it for shown in self.findings for it in (shown.moment, *shown.others)}
+
+    def ordered(self, logs, lanes, known):
+        """The moments in order, those that stand above their put, and the ends if it is found."""
+        moments = {moment.at: moment for lane in lanes for moment in lane}
+        is_odd = any(it.kind != "Lost" for it in self.found)
+        if len(moments) <= MOST_ORDERED and not is_odd:
+            found = explanation.order_of(logs, known and known.ends, MOST_STATES)
+            if found:
+                order = [moments[at] for at in found[0]]
+                for row, moment in enumerate(order):
+                    moment.row = row
+                return order, [], found[1]
+        late = {put.at for it in self.found for passed in it.passed for put in passed.puts}
+        return *Guess(lanes, late).run(), None
+
+    def shown(self, entries, judged, recording):
+        moments = {moment.at: moment for moment in self.moments}
+        findings = self.found[:MOST_FINDINGS]
+        teller = telling.Teller(entries, self.names, recording.place, findings, judged)
+        shown = []
+        for finding in findings:
+            wrong = [moments[told.at] for role, told in finding.about if role in WRONG]
+            lost = [put for passed in finding.passed if passed.later is None for put in passed.puts]
+            shown.append(Shown(
+                wrong[0], wrong[1:] + [moments[put.at] for put in lost], teller.title(finding),
+                teller.brief(finding),
+                [(word, moments[told.at]) for word, told in teller.about(finding)],
+                [*teller.around(finding), *teller.alike(finding)], list(teller.way(finding)),
+            ))
+        return shown
 
     def gots(self):
         return [it for it in self.moments if it.word == "got"]
 
+    def place(self, moment):
+        """Where an entry stands."""
+        return self.recording.short_place(moment.at)
 
-def read_run(data):
-    """The run that logs tell of. hublog.BadInput tells the first bad line."""
-    logs = hublog.read_logs(data)
-    agents, lanes = lanes_of(logs)
-    join_messages(lanes)
-    moments, upward = in_order(lanes)
-    return Run(agents, moments, upward, fault_of(logs, moments))
+    def verdict(self):
+        """The whole verdict in a line."""
+        if not self.moments:
+            return "Nothing is recorded."
+        if self.found:
+            more = len(self.found) - 1
+            first = self.findings[0].title
+            return first + (f", and {naming.plural(more, 'more finding')}" if more else "")
+        return "; ".join([*self.missing, "nothing else is wrong"]) if self.missing else (
+            "Right: nothing was found.")
+
+    def order(self):
+        """What is to be said of the order."""
+        order = "one that could be" if self.is_found else "a guess"
+        return f"Order between agents: {order}; logs have no times."
+
+
+@dataclasses.dataclass(frozen=True)
+class Known:
+    """What a script tells to those who judge, and to those who look for an order."""
+
+    verdict: verdict.Known
+    ends: ends.Ends
+
+
+def channels_of(moments, peers):
+    """By end, the colour of its channel; two ports of one share it."""
+    colours = {}
+    for moment in moments:
+        listed = moment.said.content[0] if moment.message and moment.said.content else ()
+        for end in (moment.end, *listed):
+            channel = min(end, peers.get(end, end))
+            colours.setdefault(channel, len(colours) % COLOURS)
+    return {
+        end: colour for channel, colour in colours.items()
+        for end in (channel, peers.get(channel, channel))
+    }
 
 
 def lanes_of(logs):
     """The agents in order of the input, and the moments of each."""
-    agents, lanes, at = [], [], 1
+    lanes = {}
     for log in logs:
-        at += 1
-        if log.agent not in agents:
-            agents.append(log.agent)
-            lanes.append([])
-        lane = agents.index(log.agent)
-        for word, said in log.entries:
-            at += 1
-            lanes[lane].append(Moment(lane, len(lanes[lane]), word, said, at))
-    return agents, lanes
+        lane = lanes.setdefault(log.agent, [])
+        place = list(lanes).index(log.agent)
+        for (word, said), at in zip(log.entries, log.places):
+            lane.append(Moment(place, len(lane), word, said, at))
+    return list(lanes), list(lanes.values())
 
 
 def join_messages(lanes):
@@ -149,164 +210,113 @@ def join_messages(lanes):
     moments = [moment for lane in lanes for moment in lane]
     for moment in moments:
         if moment.word == "put":
-            waiting[full_name(moment.said)].append(moment)
+            waiting[moment.said.key()].append(moment)
     for moment in moments:
-        puts = waiting.get(full_name(moment.said)) if moment.word == "got" else None
+        puts = waiting.get(moment.said.key()) if moment.word == "got" else None
         if puts:
             moment.put = puts.popleft() if len(puts) > 1 else puts[0]
             moment.put.gots.append(moment)
 
 
-def full_name(entry):
-    return entry.end, entry.line, entry.epoch, entry.number
+# An order that is guessed
 
 
-def is_ready(moment):
-    return moment.put is None or moment.put.row is not None
+class Guess:
+    """Chooses an order of all moments. `late` has the lines of puts that were passed over."""
 
+    def __init__(self, lanes, late):
+        self.lanes, self.late = lanes, late
+        self.nexts, self.last, self.order, self.upward = [0] * len(lanes), 0, [], []
+        # By end and epoch, what is still to be put there; and the adoptions still to come.
+        moments = [it for lane in lanes for it in lane]
+        self.puts = collections.Counter(
+            (it.end, it.said.epoch) for it in moments if it.word == "put"
+        )
+        self.adoptions = {it.said for it in moments if it.word == "adopted"}
+        # By end, the epochs of its puts from the last one down, without those that are done.
+        self.epochs = collections.defaultdict(list)
+        for end, epoch in sorted(self.puts, reverse=True):
+            self.epochs[end].append(epoch)
+        # A hub that has no epochs puts all in queue 0.
+        self.has_epochs = {end for end, epochs in self.epochs.items() if len(epochs) > 1}
 
-def rank(moment, nexts, last):
-    """What comes first of the moments that can come next: short arrows, closings at the end."""
-    place = {"adopted": 0, "got": 1, "put": 2, "closed": 4}[moment.word]
-    if moment.word == "put" and all(got.place != nexts[got.lane] for got in moment.gots):
-        place = 3
-    return place, moment.lane != last, moment.lane
+    def run(self):
+        """All moments in order, and the gots above their put."""
+        while True:
+            heads = [lane[at] for lane, at in zip(self.lanes, self.nexts) if at < len(lane)]
+            if not heads:
+                return self.order, self.upward
+            ready = [moment for moment in heads if moment.put is None or moment.put.row is not None]
+            timely = [moment for moment in ready if not self.is_early(moment)]
+            if ready:
+                moment = min(timely or ready, key=self.rank)
+            else:
+                # Each waits for what another one puts later: the logs go round in a circle.
+                moment = heads[0]
+                self.upward.append(moment)
+            self.place(moment)
 
+    def place(self, moment):
+        moment.row = len(self.order)
+        self.order.append(moment)
+        self.nexts[moment.lane] += 1
+        self.last = moment.lane
+        if moment.word == "put":
+            self.puts[moment.end, moment.said.epoch] -= 1
+        elif moment.word == "adopted":
+            self.adoptions.discard(moment.said)
 
-def in_order(lanes):
-    """All moments in order, and the gots above their put."""
-    nexts, order, upward, last = [0] * len(lanes), [], [], 0
-    while True:
-        heads = [lane[at] for lane, at in zip(lanes, nexts) if at < len(lane)]
-        if not heads:
-            return order, upward
-        ready = [moment for moment in heads if is_ready(moment)]
-        if ready:
-            moment = min(ready, key=lambda it: rank(it, nexts, last))
-        else:
-            # Each waits for what another one puts later: the logs go round in a circle.
-            moment = heads[0]
-            upward.append(moment)
-        moment.row = len(order)
-        order.append(moment)
-        nexts[moment.lane] += 1
-        last = moment.lane
+    def is_early(self, moment):
+        """Whether an adoption comes before what is put in the older queues of the end, or a put
+        before the adoption that makes its queue."""
+        if moment.word == "put":
+            return (moment.end, moment.said.epoch) in self.adoptions
+        if moment.word != "adopted":
+            return False
+        end, epoch = moment.said
+        epochs = self.epochs.get(end, [])
+        while epochs and not self.puts[end, epochs[-1]]:
+            epochs.pop()
+        return end in self.has_epochs and bool(epochs) and epochs[-1] < epoch
 
-
-def fault_of(logs, moments):
-    """The fault that the checker names, or None."""
-    word, *numbers = hublog.judge(logs).split(" ")
-    if word == "clean":
-        return None
-    end, line, place = map(int, numbers[:3])
-    entry, _ = hublog.got_lists(logs)[end, line][place]
-    moment = next(it for it in moments if it.said is entry)
-    return Fault(moment, place, numbers[3], due_at(logs, moment, place, numbers[3]))
-
-
-def due_at(logs, moment, place, kind):
-    """What was due at a place of a line."""
-    accepted = hublog.accepted_lists(logs).get((moment.said.end, moment.said.line), [])
-    if place < len(accepted):
-        return DUE.get(kind, f"{accepted[place].epoch}:{accepted[place].number} was next")
-    return DUE.get(kind, "nothing more was put")
-
-
-# What it is called
-
-
-class Names:
-    """What agents and ends are called: by a script where one names them, else by number."""
-
-    def __init__(self, kinds=(), ends=()):
-        self.kinds, self.ends = list(kinds), list(ends)
-
-    def agent(self, number):
-        if number < len(self.kinds):
-            return f"agent {number}, {self.kinds[number]}"
-        return f"agent {number}"
-
-    def end(self, number):
-        return self.ends[number] if number < len(self.ends) else f"end {number}"
-
-    def end_in_full(self, number):
-        """The name with the number by which logs know the end."""
-        name = self.end(number)
-        return f"{name} (end {number})" if number < len(self.ends) else name
-
-
-def names_of(data):
-    """The names that a script declares. hubscript.BadScript tells the first bad line."""
-    found = hubscript.declarations(data)
-    queues = [f"queue of agent {number}" for number in range(len(found.agents))]
-    ends = [short(name, NAME_COLUMNS) for name in found.end_names()]
-    return Names([it.kind for it in found.agents], queues + ends)
-
-
-# How it is told
-
-
-def plural(count, word):
-    if count == 1:
-        return f"1 {word}"
-    return f"{count:,} {word[:-1]}ies" if word.endswith("ry") else f"{count:,} {word}s"
-
-
-def visible(text):
-    """The text with what can't be seen, or turns text about, as JSON escapes it."""
-    if text.isascii() and text.isprintable():
-        return text
-    return "".join(map(visible_letter, text))
-
-
-def visible_letter(letter):
-    if unicodedata.category(letter) not in HIDDEN:
-        return letter
-    return json.dumps(letter)[1:-1] if letter != "\x7f" else "\\u007f"
-
-
-def columns_of(text):
-    """How many letters of a monospaced font the text is wide."""
-    if text.isascii():
-        return len(text)
-    return sum(1 + (unicodedata.east_asian_width(letter) in WIDE) for letter in text)
-
-
-def short(text, columns):
-    """The text, or its beginning with `…` behind it, of at most so many columns."""
-    # Nothing is read of a long text but what may be shown.
-    beginning = visible(text[: columns + 1])
-    if columns_of(beginning) <= columns:
-        return beginning
-    kept, width = [], 1
-    for letter in beginning:
-        width += columns_of(letter)
-        if width > columns:
-            break
-        kept.append(letter)
-    return "".join(kept) + "…"
+    def rank(self, moment):
+        """What comes first of the moments that can come next: short arrows, closings at the end."""
+        place = {"adopted": 0, "got": 1, "put": 2, "closed": 4}[moment.word]
+        if moment.word == "put" and (not moment.gots or moment.at in self.late):
+            place = 0
+        elif moment.word == "put" and all(it.place != self.nexts[it.lane] for it in moment.gots):
+            place = 3
+        return place, moment.lane != self.last, moment.lane
 
 
 # The command
 
 
 class Parser(command.Parser):
-    """The arguments of a command that shows logs, and the input that they name."""
+    """The arguments of a command that shows logs, and the run that they name."""
 
     def __init__(self, prog, about):
         super().__init__(prog, about)
+        verdict.add_options(self)
         self.add_argument(
-            "--script", metavar="FILE", help="name agents and ends as the script of the run does"
+            "paths", nargs="*", metavar="FILE or FOLDER",
+            help="the logs; standard input where none is named",
         )
-        self.add_logs()
 
     def read(self):
-        """The arguments, the bytes of the logs, and the names. Ends the program where it can't."""
-        words = self.parse_args()
-        names = Names()
-        if words.script is not None:
-            try:
-                names = names_of(self.bytes_of(words.script))
-            except hubscript.BadScript as bad:
-                self.error(f"{words.script}: {bad}")
-        return words, self.bytes_of(words.file), names
+        """The arguments, and the run. Ends the program where it can't be read."""
+        words, known = self.parse_args(), None
+        script = self.bytes_of(words.script) if words.script is not None else None
+        try:
+            recording = recordings.read(words.paths)
+            names = naming.Names(recording.names)
+            if script is not None:
+                names = naming.names_of(script, recording.names)
+                known = Known(verdict.known_of(script), ends.of_script(script))
+        except hubscript.BadScript as bad:
+            self.error(f"{words.script}: {bad}")
+        except OSError as error:
+            self.error(str(error))
+        except recordings.Refused as refused:
+            self.refuse(refused)
+        return words, Run(recording, words, known, names)

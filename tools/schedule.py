@@ -73,7 +73,8 @@ class Goal:
         self.closed = {item.end for item in self.all("closed")}
         self.mentioned = {item.end for items in self.items for item in items}
         self.mentioned.update(port for item in self.all("put", "got") for port in item.ports)
-        self.got = {key_of(item.said) for item in self.all("got")}
+        # By what was got, who got it, and where.
+        self.getters = {it.said.key(): (it.agent, it.place) for it in self.all("got")}
         self.arrivals = self.arrivals_of(logs)
         self.uses = self.places_of_uses()
 
@@ -115,10 +116,6 @@ class Goal:
         return self.items[agent][places[found]] if found < len(places) else None
 
 
-def key_of(said):
-    return said.end, said.line, said.name()
-
-
 class Ranks:
     """In which order the queues of ends with several lines had what was put there.
 
@@ -132,14 +129,14 @@ class Ranks:
         self.ranks, self.floors = {}, {}
         self.goal, self.peers = goal, peers
         for gots in goal.arrivals.values():
-            names = dict.fromkeys(key_of(said) for _, said in gots)
+            names = dict.fromkeys(said.key() for _, said in gots)
             self.ranks.update((name, rank) for rank, name in enumerate(names))
         queues = collections.defaultdict(list)
         for item in goal.all("put"):
             if goal.has_several_lines(item.end):
                 queues[item.end, item.said.epoch].append(item)
         for items in queues.values():
-            left = [item for item in items if key_of(item.said) not in self.ranks]
+            left = [item for item in items if item.said.key() not in self.ranks]
             self.rank_swept(left, len(items) - len(left))
 
     def rank_swept(self, left, floor):
@@ -152,12 +149,12 @@ class Ranks:
         noticed.sort(key=lambda item: firsts[item.at])
         ranks = {}
         for rank, item in enumerate(noticed, floor):
-            self.ranks[key_of(item.said)] = rank
+            self.ranks[item.said.key()] = rank
             ranks.update((self.peers.get(port), rank + 1) for port in item.ports)
         for item in left:
             if not firsts[item.at]:
                 others = [ranks.get(port, floor) for port in item.ports]
-                self.floors[key_of(item.said)] = max(others, default=floor)
+                self.floors[item.said.key()] = max(others, default=floor)
 
     def notice_of(self, port):
         """Where logs have the notice of a port that was closed by a sweep, or None."""
@@ -168,7 +165,7 @@ class Ranks:
 
     def is_next(self, said, count):
         """Whether a put may come where its queue has had so many that have a rank."""
-        key = key_of(said)
+        key = said.key()
         return count >= self.floors.get(key, 0) and self.ranks.get(key, count) == count
 
 
@@ -187,7 +184,7 @@ class Move:
 
 
 class State:
-    """A machine, how far each log is, and the step lines so far, as pairs of those before."""
+    """A machine, how far each log is, and the moves so far: those before, step lines, and items."""
 
     def __init__(self, machine, places):
         self.machine, self.places = machine, places
@@ -212,11 +209,18 @@ class State:
         return tuple(self.places), self.hidden
 
     def lines(self):
+        return [line for lines, _ in self.moves() for line in lines]
+
+    def items(self):
+        """All items in the order in which they were done."""
+        return [item for _, items in self.moves() for item in items]
+
+    def moves(self):
         parts, trace = [], self.trace
         while trace:
-            trace, lines = trace
-            parts.append(lines)
-        return [line for lines in reversed(parts) for line in lines]
+            trace, *part = trace
+            parts.append(part)
+        return reversed(parts)
 
 
 class Search:
@@ -225,12 +229,13 @@ class Search:
     Where logs have no epochs each name counts what its line put in all queues. Where they have no
     notices, none that the machine puts stands in them. Where notices may cross, each of the two
     ports of a channel may have put one, of which no step lines can do the second. Where the search
-    is relaxed, an entry may be given up: it shows how far each log can be explained.
+    is relaxed, an entry may be given up: it shows how far each log can be explained. Where it is
+    close, each got comes as soon behind its put as it can.
     """
 
     def __init__(self, goal, ends, budget, has_epochs=True, has_notices=True, may_cross=False,
-                 is_relaxed=False):
-        self.goal, self.ends, self.budget = goal, ends, budget
+                 is_relaxed=False, is_close=False):
+        self.goal, self.ends, self.budget, self.is_close = goal, ends, budget, is_close
         self.has_epochs, self.has_notices = has_epochs, has_notices
         self.may_cross, self.is_relaxed = may_cross, is_relaxed
         peers = ends.peers()
@@ -259,7 +264,7 @@ class Search:
         for line in lines:
             machine.do(line)
         state = State(machine, [0] * self.goal.agents)
-        state.trace = (None, lines)
+        state.trace = (None, lines, ())
         return state
 
     def is_done(self, agent, place):
@@ -270,13 +275,30 @@ class Search:
         is_going = True
         while is_going:
             is_going = False
-            for agent in range(min(self.goal.agents, self.ends.agents)):
+            for agent in self.turns(state):
                 while move := self.move(state, agent):
                     self.apply(state, move)
                     is_going = True
+                    if self.is_close:
+                        break
+                if is_going and self.is_close:
+                    break
             if not is_going and (move := self.free_sweep(state)):
                 self.apply(state, move)
                 is_going = True
+
+    def turns(self, state):
+        """The agents, in the order in which they may go on. All that they do comes to the same;
+        where it is to be looked at, what is got stands close behind its put."""
+        agents = range(min(self.goal.agents, self.ends.agents))
+        return sorted(agents, key=lambda it: self.turn(state, it)) if self.is_close else agents
+
+    def turn(self, state, agent):
+        item = self.goal.item(agent, state.places[agent])
+        if item is None or item.word != "put":
+            return {None: 5, "adopted": 0, "got": 1, "closed": 4}[item and item.word]
+        getter, place = self.goal.getters.get(item.said.key(), (None, None))
+        return 2 if getter is None or state.places[getter] == place else 3
 
     def head(self, state, agent):
         """The next item of an agent's log, if it is of an end that there is."""
@@ -302,14 +324,14 @@ class Search:
         state.places[move.agent] += move.count
         state.hidden |= frozenset(move.hidden)
         state.left_out += move.left_out
-        state.trace = (state.trace, move.lines)
+        state.trace = (state.trace, move.lines, items)
 
     def count(self, state, item):
         if item.word == "got":
             state.taken[item.end, item.said.line] += 1
         elif item.word == "put":
             state.done[item.end, item.said.line] += 1
-            state.ranked[item.end, item.said.epoch] += key_of(item.said) in self.ranks.ranks
+            state.ranked[item.end, item.said.epoch] += item.said.key() in self.ranks.ranks
 
     def see_names(self, state, happened, items):
         """Whether the machine does more than logs without notices or epochs say."""
@@ -485,9 +507,11 @@ class Search:
             return []
         if end.kind == "port" or end.place != WITH or end.agent == item.agent:
             return None
-        use = self.goal.next_use(end.agent, item.end, state.places[end.agent])
-        if use is not None and use.word != "adopted":
-            return None
+        # An agent that was guessed has no log.
+        if end.agent < self.goal.agents:
+            use = self.goal.next_use(end.agent, item.end, state.places[end.agent])
+            if use is not None and use.word != "adopted":
+                return None
         return [f"hand {item.end} {item.agent}"]
 
     def move_closed(self, state, item):
@@ -501,7 +525,7 @@ class Search:
 
     def crosses(self, state, item):
         """Whether it is a notice at an end that is closed by now, and that nobody got."""
-        is_notice = item.is_notice and key_of(item.said) not in self.goal.got
+        is_notice = item.is_notice and item.said.key() not in self.goal.getters
         return self.may_cross and is_notice and state.machine.ends[item.end].is_closed
 
     def move_notice(self, state, item, left_out=()):
@@ -546,7 +570,7 @@ class Search:
         for at in self.goal.lines.get(end.number, ()):
             late = self.late_puts(state, end, at, is_closing)
             if late and late[-1].is_notice:
-                may_cross = self.may_cross and key_of(late[-1].said) not in self.goal.got
+                may_cross = self.may_cross and late[-1].said.key() not in self.goal.getters
                 if is_closing and may_cross and not is_swept:
                     hidden.append(("crossed", end.number))
                 if is_swept or (is_closing and may_cross):
@@ -749,7 +773,7 @@ class Search:
             if is_open and not (is_here and self.is_due(state, item)):
                 return None
             if is_here and not is_open:
-                is_here = self.may_cross and key_of(item.said) not in self.goal.got
+                is_here = self.may_cross and item.said.key() not in self.goal.getters
                 left_out += (item,) if is_here else ()
             place += is_here
         return place - state.places[agent], left_out

@@ -4,6 +4,8 @@
 const run = JSON.parse(document.getElementById("run").textContent);
 const [PUT, GOT, ADOPTED] = [0, 1, 2];
 const WORDS = ["put", "got", "adopted", "closed"];
+const HEAD = ["End", "accepted", "got", "left", "closed by"];
+const CHOOSE = "Choose an entry: point at it, tap it, or go to it with the arrow keys.";
 const entries = run.entries.map(
   ([word, lane, end, at, line, name, ports, body, partners]) =>
     ({ word, lane, end, at, line, name, ports, body, partners: partners ?? [] }),
@@ -15,6 +17,8 @@ let chosen = -1;
 let shown = -1;
 let matches = [];
 let addressTimer = 0;
+// The finding to which the button led last.
+let finding = -1;
 
 const rowOf = (at) => byId(String(at + 1));
 const endName = (number) => run.ends[number];
@@ -58,6 +62,22 @@ function element(name, text, style) {
   return made;
 }
 
+function listOf(pairs) {
+  const made = document.createElement("dl");
+  for (const [title, value] of pairs) {
+    const text = element("dd", "");
+    text.append(value);
+    made.append(element("dt", title), text);
+  }
+  return made;
+}
+
+/** Where an entry stands in the input. */
+function placeOf(entry) {
+  const [which, line] = Array.isArray(entry.at) ? entry.at : [0, entry.at];
+  return run.files.length > 1 ? `${run.files[which]}:${line}` : line;
+}
+
 function partnerButton(at) {
   const other = entries[at];
   const button = element("button", `${run.agents[other.lane]}: entry ${at + 1}`);
@@ -80,23 +100,52 @@ function facts(at) {
     for (const partner of entry.partners) found.push([title, partnerButton(partner)]);
     if (entry.partners.length === 0) found.push([title, "nobody"]);
   }
-  found.push(["Then waiting", waitingAt(entry.end, at)], ["Input line", entry.at]);
+  found.push(["Then waiting", waitingAt(entry.end, at)], ["Input line", placeOf(entry)]);
   return found;
 }
 
-function show(at) {
-  if (at === shown || at < 0) return;
-  shown = at;
-  const entry = entries[at];
-  const pairs = document.createElement("dl");
-  for (const [title, value] of facts(at)) {
-    const text = element("dd", "");
-    text.append(value);
-    pairs.append(element("dt", title), text);
+/** What was found, and what each end accepted, got and left, where no entry is chosen. */
+function summarise() {
+  const parts = [element("h2", "Summary")];
+  for (const finding of run.findings) {
+    const button = element("button", finding.title, "wrong");
+    button.type = "button";
+    button.addEventListener("click", () => choose(finding.row));
+    parts.push(button);
   }
+  parts.push(table(HEAD, run.summary), element("p", CHOOSE));
+  panel.replaceChildren(...parts);
+}
+
+function table(head, rows) {
+  const made = document.createElement("table");
+  const add = (name, cells) => {
+    const row = document.createElement("tr");
+    row.append(...cells.map((cell) => element(name, cell, Number.isInteger(cell) ? "number" : "")));
+    made.append(row);
+  };
+  add("th", head);
+  rows.forEach((cells) => add("td", cells));
+  return made;
+}
+
+function show(at) {
+  if (at === shown && at >= 0) return;
+  shown = at;
+  if (at < 0) {
+    summarise();
+    return;
+  }
+  const entry = entries[at];
   const parts = [element("h2", `Entry ${at + 1}: ${WORDS[entry.word]}`)];
-  if (at === run.fault) parts.push(element("p", run.fault_text, "wrong"));
-  parts.push(pairs);
+  for (const finding of run.findings.filter((it) => it.row === at)) {
+    parts.push(element("p", finding.title, "wrong"), listOf(
+      finding.about.map(([title, row]) => [title, partnerButton(row)]),
+    ));
+    if (finding.around.length > 0) parts.push(element("pre", finding.around.join("\n"), "around"));
+    parts.push(...finding.way.map((line) => element("p", line, "way")));
+  }
+  parts.push(listOf(facts(at)));
   if (entry.word <= GOT) {
     const body = entry.body === null ? "notice: the port at the other side was closed"
       : indented(run.bodies[entry.body]);
@@ -154,6 +203,23 @@ function choose(at) {
   setAddress();
 }
 
+/** Goes back to the summary. */
+function leave() {
+  mark(chosen, false);
+  chosen = -1;
+  list.removeAttribute("aria-activedescendant");
+  byId("position").textContent = `${entries.length} entries`;
+  byId("back").disabled = true;
+  byId("forward").disabled = entries.length === 0;
+  show(chosen);
+  showFound();
+}
+
+function nextFinding() {
+  finding = (finding + 1) % run.findings.length;
+  choose(run.findings[finding].row);
+}
+
 const page = () => Math.max(1, Math.floor(scroller.clientHeight / run.row) - 3);
 const KEYS = {
   ArrowDown: () => choose(chosen + 1),
@@ -165,6 +231,7 @@ const KEYS = {
   Home: () => choose(0),
   End: () => choose(entries.length - 1),
   Enter: () => choose(entries[chosen]?.partners[0] ?? chosen),
+  Escape: leave,
 };
 
 list.addEventListener("keydown", (event) => {
@@ -178,8 +245,8 @@ list.addEventListener("focus", () => {
 });
 byId("back").addEventListener("click", () => choose(chosen - 1));
 byId("forward").addEventListener("click", () => choose(chosen + 1));
-byId("to-fault").addEventListener("click", () => {
-  choose(run.fault);
+byId("to-finding").addEventListener("click", () => {
+  nextFinding();
   list.focus();
 });
 
@@ -191,7 +258,8 @@ function pointedAt(target) {
 }
 
 scroller.addEventListener("pointerover", (event) => {
-  if (event.pointerType !== "touch") show(pointedAt(event.target));
+  const at = pointedAt(event.target);
+  if (event.pointerType !== "touch" && at >= 0) show(at);
 });
 scroller.addEventListener("pointerleave", () => show(chosen));
 scroller.addEventListener("click", (event) => {
@@ -264,6 +332,9 @@ function chooseAddress() {
 
 addEventListener("hashchange", chooseAddress);
 showFound();
+summarise();
 byId("back").disabled = true;
 byId("forward").disabled = entries.length === 0;
-if (!chooseAddress() && run.fault !== null) choose(run.fault);
+const count = run.findings.length;
+byId("to-finding").textContent = count > 1 ? `Next of ${count} findings` : "To the finding";
+if (!chooseAddress() && count > 0) nextFinding();

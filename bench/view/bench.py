@@ -46,7 +46,7 @@ def kept(page):
 
     def check(output):
         text = output.read_bytes()
-        count = text.count(b'class="delivery"')
+        count = text.count(b'class="delivery ')
         if count != MESSAGES:
             raise Failure(f"the page has {count} arrows, and not {MESSAGES}")
         pathlib.Path(page).write_bytes(text)

@@ -73,7 +73,8 @@ void varukoni_close(struct varukoni_hub *hub);
  * At DONE and BAD `*length` is the length of the whole text, of which `room` has as much as it has
  * room for, and varukoni_said gives it again. At any other status `room` and `*length` are as they
  * were. The outcome line of a delivery is below 262,500 bytes; those of `sweep` and `cast` grow
- * with the number of envelopes and channels. */
+ * with the number of envelopes and channels. Where it is `not-now`, print the lines so far into a
+ * file: `tools/why FILE` says which test failed. */
 uint8_t varukoni_line(struct varukoni_hub *hub, const uint8_t *line, size_t line_length,
                       uint8_t *room, size_t room_length, size_t *length);
 

@@ -8,7 +8,8 @@
 // the name BadLine, whose `kind` names the first test that it fails, and the hub goes on. Errors
 // for want of memory have the names NoMemory (nothing was changed), NoRoom (`said` gives the
 // outcome line) and Lost (the hub runs no line any more); one of a hub that was closed has the
-// name Closed. Half of a surrogate pair in a text is read as U+FFFD.
+// name Closed. Half of a surrogate pair in a text is read as U+FFFD. Where an outcome is `not-now`,
+// print the lines so far into a file: `tools/why FILE` says which test failed.
 //
 // `steps(text)` and `check(text)` give { status, text } of `messagehub`; `readScript(text)`
 // gives nothing, or throws BadLine with the first bad line. docs/FORMATS.md has the formats,

@@ -75,6 +75,23 @@ def test_whole_texts():
     refuses(lambda: varukoni.read_script("fly\n"), BadLine, "line 1: Syntax")
 
 
+def test_why():
+    """The reason that docs/FORMATS.md has for each `not-now`."""
+    lines = ["agent -", "agent -", "channel 0", "adopt 1 1", 'post 0 - {"b":1, "a":2}', "take 1"]
+    reason = "agent 0 has end 1, so that it has arrived nowhere"
+    same(varukoni.why("\n".join(lines)), [(4, reason)])
+    same(varukoni.why(""), [])
+    refuses(lambda: varukoni.why("agent -\nfly"), BadLine, "line 2: UnknownStep")
+    with Hub(explains=True) as hub:
+        for line in lines:
+            wanted = reason if line == lines[3] else None
+            same(hub.why() if hub(line) == "not-now" else None, wanted)
+        refuses(lambda: hub("fly"), BadLine, "UnknownStep")
+        same((hub("take 7"), hub.why()), ("not-now", "there is no end 7"))
+        same((hub("start 1"), hub.why()), ("started", None))
+    refuses(Hub().why, ValueError)
+
+
 def test_threads():
     """Four threads post through one hub, and each number is given once."""
     hub, given = opened(), []
@@ -104,6 +121,7 @@ def test_pipe():
         same(child.wait(timeout=10), 0)
 
 
-for test in (test_lines, test_a_long_line, test_whole_texts, test_threads, test_pipe):
+TESTS = (test_lines, test_a_long_line, test_whole_texts, test_why, test_threads, test_pipe)
+for test in TESTS:
     test()
 print(f"embed/python: {checks} checks")

@@ -8,11 +8,15 @@ docs/EMBEDDING.md tells how to build the library, and docs/FORMATS.md has the st
 is used by one thread at a time, different hubs by several at once: ctypes lets go of the
 interpreter's lock during a call, so each hub has a lock of its own here. The library is the one
 that VARUKONI_SO names, or `libvarukoni.so` in `lib` or `out/lib` of the folder above.
+
+`why` says which test failed where an outcome is `not-now`, by a state machine in Python, which
+isn't proved. A hub that is opened with `explains=True` takes its lines through that machine too.
 """
 
 import ctypes
 import os
 import pathlib
+import sys
 import threading
 
 VERSION = 1
@@ -82,10 +86,23 @@ def _loaded():
 _library = _loaded()
 
 
+def _machine():
+    """A state machine in Python, whose module lies beside this one, or in the repository."""
+    here = pathlib.Path(__file__).resolve().parent
+    if not (here / "machine.py").is_file():
+        here = here.parent.parent / "tools"
+    if str(here) not in sys.path:
+        sys.path.append(str(here))
+    import machine
+
+    return machine.Machine()
+
+
 class Hub:
     """The hub after the step lines so far. A call runs one more, which comes without its LF."""
 
-    def __init__(self):
+    def __init__(self, explains=False):
+        self._machine = _machine() if explains else None
         self._raw = _Raw(None, False)
         self._hub = ctypes.byref(self._raw)
         self._lock = threading.Lock()
@@ -105,9 +122,17 @@ class Hub:
         data = _bytes(line)
         with self._lock:
             status = _library.varukoni_line(self._hub, data, len(data), *self._lent)
+            if self._machine is not None and status in (DONE, NO_ROOM):
+                self._machine.do(data.decode())
             if status == DONE:
                 return self._text().decode()[:-1]
             self._refuse(status, line)
+
+    def why(self):
+        """The test that failed where the last line that was run was `not-now`, else None."""
+        if self._machine is None:
+            raise ValueError("the hub was opened without explains=True")
+        return self._machine.why
 
     def said(self):
         """What the last line was answered with that was run or bad, once more."""
@@ -172,6 +197,20 @@ def _bytes(text):
 def steps(data):
     """(exit status, text) of `messagehub steps` for a str or bytes."""
     return _whole(_library.varukoni_steps, data)
+
+
+def why(data):
+    """The step lines that are `not-now`, as pairs of a number from 1 and the test that failed."""
+    status, text = steps(data)
+    if status == BAD:
+        raise BadLine(text.removesuffix("\n"), None)
+    machine, found = _machine(), []
+    lines = _bytes(data).decode().removesuffix("\n").split("\n") if data else []
+    for number, line in enumerate(lines, 1):
+        machine.do(line)
+        if machine.why is not None:
+            found.append((number, machine.why))
+    return found
 
 
 def check(logs):

@@ -46,16 +46,23 @@ fn refused(path: &str, log: &mut Recorder) {
     show(log.closed(2));
     show(log.put_notice(1, 32, 0, 0));
     show(log.got_notice(65_536, 0, 0, 0));
+    show(log.put(1, 0, 0, 0, &[], "1"));
+    show(log.put_notice(1, 0, 0, 1));
+    drop(log.putting(1, 0, 0, 4, &[], "\"refused\""));
+    // What was taken back isn't there, and may be put again.
+    if let Ok(putting) = log.putting(1, 0, 0, 4, &[], "\"accepted\"") {
+        putting.keep();
+    }
 }
 
 /// The JSON texts that the recorder has to tell apart, one a line: as a body, past one, or none.
 fn told(path: &str) -> Result<(), Refusal> {
     let texts = std::fs::read_to_string(path)?;
     let mut log = Recorder::create(format!("{path}.log"), 0)?;
-    for text in texts.lines() {
-        if let Err(refusal) = log.put(0, 0, 0, 0, &[], text) {
+    for (number, text) in (0..).zip(texts.lines()) {
+        if let Err(refusal) = log.put(0, 0, 0, number, &[], text) {
             println!("{refusal}");
-            log.put(0, 0, 0, 0, &[], "\"none\"")?;
+            log.put(0, 0, 0, number, &[], "\"none\"")?;
         }
     }
     log.finish()

@@ -63,12 +63,16 @@ def drop(logs):
     return entry
 
 
-def double(logs):
-    """A got entry stands twice."""
-    entry = logs.pick(logs.got)
+def doubled(logs, entries):
+    """One of these entries stands twice."""
+    entry = logs.pick(entries)
     if entry:
         logs.lines.insert(entry.at, logs.text(entry))
     return entry
+
+
+def double(logs):
+    return doubled(logs, logs.got)
 
 
 def change_body(logs):
@@ -139,6 +143,83 @@ CHANGES = [
     swap, drop, double, change_body, change_ports, change_name, move_behind_close, drop_put,
     make_notice, follow_notice,
 ]
+
+
+# What tools/report alone finds.
+
+
+def double_message(logs):
+    return doubled(logs, logs.messages_got)
+
+
+def end_line_early(logs):
+    """A message behind which its line has another is a notice."""
+    puts = {it.key(): it for it in logs.put}
+    behind = {its[-1][0].at for its in hublog.got_lists(logs.logs).values()}
+    entry = logs.pick(it for it in logs.messages_got if it.at not in behind and it.key() in puts)
+    if entry:
+        logs.replace(entry, "notice")
+        logs.replace(puts[entry.key()], "notice")
+    return entry
+
+
+def close_sent(logs):
+    """A port is closed by the agent that has sent it away."""
+    entry = logs.pick(it for it in logs.put if it.content and it.content[0])
+    if entry:
+        line = f"closed {entry.content[0][0]}"
+        logs.lines.insert(entry.at, line)
+        others = [at for at, it in enumerate(logs.lines) if it == line and at != entry.at]
+        for at in reversed(others):
+            del logs.lines[at]
+    return entry
+
+
+def answer_early(logs):
+    """An answer is got before the message is put that it answers."""
+    puts = {it.key(): (log.agent, it.at) for log in logs.logs for word, it in log.entries
+            if word == "put"}
+    gots = {}
+    for log in logs.logs:
+        for word, it in log.entries:
+            if word == "got" and it.key() in puts:
+                gots.setdefault((log.agent, puts[it.key()][0]), []).append(it)
+    found = [
+        (puts[message.key()][1], answer) for (asked, asker), its in gots.items() for message in its
+        for answer in gots.get((asker, asked), ())
+        if message.at < puts[answer.key()][1] and puts[message.key()][1] < answer.at
+    ]
+    pair = logs.pick(found)
+    if pair:
+        logs.lines.insert(pair[0] - 1, logs.lines.pop(pair[1].at - 1))
+    return pair
+
+
+def put_twice(logs):
+    return doubled(logs, logs.put)
+
+
+def lose_last(logs):
+    """The last that was got of a line is missing."""
+    lasts = [its[-1][0] for its in hublog.got_lists(logs.logs).values()]
+    entry = logs.pick(it for it in lasts if it.content)
+    if entry:
+        del logs.lines[entry.at - 1]
+    return entry
+
+
+# By the kind that tools/report has to find.
+PLANTS = {
+    "AfterClose": move_behind_close, "AfterNotice": end_line_early, "Changed": change_body,
+    "Twice": double_message, "Gap": drop, "Foreign": drop_put, "NotOwner": close_sent,
+    "BeforePut": answer_early, "PutTwice": put_twice, "Lost": lose_last,
+}
+
+
+def plant(kind, output, draw):
+    """The output with a fault of a kind, or None where there is no place for it."""
+    logs = Logs(output, draw)
+    return "\n".join(logs.lines).encode() if PLANTS[kind](logs) else None
 
 
 def change(output, draw):

@@ -6,7 +6,8 @@ import random
 import changes
 import fates
 import hublog
-from script import Script
+import hubscript
+import verdict
 
 # A program's answer: its standard output, and its status, which is None where its time was over.
 Answer = collections.namedtuple("Answer", "output status")
@@ -16,7 +17,8 @@ class Examination:
     """One script, the answer of `run`, and what was found, as pairs of a check and a complaint."""
 
     def __init__(self, data, run, check):
-        self.script, self.answer, self.check = Script(data), run(data), check
+        self.data, self.script = data, hubscript.read(data)
+        self.answer, self.check = run(data), check
         self.found = []
         # The logs, once they were read.
         self.logs = None
@@ -26,10 +28,21 @@ class Examination:
 
     def examine(self):
         """Later checks rest on those before, so the first that finds something is the last."""
-        for check in (self.test_end, self.test_judge, self.test_fates, self.test_check):
+        checks = (
+            self.test_end, self.test_judge, self.test_fates, self.test_check, self.test_report,
+        )
+        for check in checks:
             check()
             if self.found:
                 break
+
+    def test_report(self):
+        """What was left is allowed where the script, or a close, leaves it."""
+        entries = verdict.Entries(self.logs)
+        known = verdict.known_of(self.data)
+        kinds = {it.kind for it in verdict.verdict(entries, known, allow_left=True)}
+        if kinds:
+            self.complain("report", f"tools/report finds {', '.join(sorted(kinds))}")
 
     def test_end(self):
         status, last = self.answer.status, self.answer.output.decode(errors="replace")[-80:]
@@ -44,9 +57,9 @@ class Examination:
         except hublog.BadInput as bad:
             self.complain("judge", f"tools/judge can't read the logs: {bad}")
             return
-        verdict = hublog.judge(self.logs)
-        if verdict != "clean":
-            self.complain("judge", f"tools/judge says {verdict}")
+        judged = hublog.judge(self.logs)
+        if judged != "clean":
+            self.complain("judge", f"tools/judge says {judged}")
         _, mark, tail = self.answer.output.partition(b"\ndeliveries\n")
         if not mark or tail.decode().split("\n")[:-2] != hublog.deliveries(self.logs):
             self.complain("deliveries", "the deliveries aren't those of the logs")
@@ -72,9 +85,9 @@ class Examination:
             return None
         output, name = changed
         answer = self.check(output)
-        verdict, status = hublog.answer(output)
+        said, status = hublog.answer(output)
         if status != 1:
-            self.complain("changed", f"tools/judge says {verdict} of {name}")
-        if answer != (f"{verdict}\n".encode(), status):
-            self.complain("changed", f"check says {answer} of {name}, and tools/judge {verdict}")
+            self.complain("changed", f"tools/judge says {said} of {name}")
+        if answer != (f"{said}\n".encode(), status):
+            self.complain("changed", f"check says {answer} of {name}, and tools/judge {said}")
         return name

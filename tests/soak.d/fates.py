@@ -124,7 +124,7 @@ class Fates:
     def needs_start(self, agent, end):
         agents = self.script.agents
         if end < len(agents):
-            return end == agent and agents[end][0] == "window"
+            return end == agent and agents[end].kind == "window"
         return self.script.declared_of(end).kind == "port"
 
     # What an agent held

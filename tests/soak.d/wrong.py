@@ -1,8 +1,6 @@
 """Faults of the simulated hub, one at a time: tests/soak has to find each of them."""
 
-import agent
-import hub
-import simulation
+from simulator import agent, hub, simulation
 
 Agent, End, Hub, Posted = agent.Agent, hub.End, hub.Hub, hub.Posted
 

@@ -149,6 +149,8 @@ impl Hub {
     }
 
     /// Runs one step line, which comes without its LF, and gives its outcome line without its LF.
+    /// Where that is `not-now`, print the lines so far into a file: `tools/why FILE` says which
+    /// test failed.
     #[inline]
     pub fn line(&mut self, line: &[u8]) -> Result<&[u8], Error> {
         let mut length = 0;

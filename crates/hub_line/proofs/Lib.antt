@@ -1,0 +1,4 @@
+pub mod Numbers
+pub mod Tracks
+pub mod Reach
+pub mod Waiting

@@ -1,0 +1,87 @@
+//! What is known where both ends of a line are at hand.
+ghost use Rattle.std.specs.Prelude.{◌≡◌, ◌≢◌, ◌++◌, [], List, length, IfSome};
+ghost use Rattle.rtrb.specs.Ring.{sent, received, IsPair, SameProducer, SameConsumer};
+ghost use Rattle.hub_line.specs.Rings.{given, known};
+ghost use Rattle.hub_line.specs.Tracks.{in_use, posted_of, Stands};
+ghost use Rattle.hub_line.specs.Reach.{HasReached, IsAt, taken_of};
+ghost use Rattle.hub_line.specs.declared.track.Ahead.TheVariants.{Open};
+
+use crate::feed::Feed;
+use crate::poster::LinePoster;
+use crate::source::Source;
+use crate::taker::{LineTaker, next_ahead};
+use crate::track::{Ahead, Chained, Track};
+use rtrb::{Consumer, Producer};
+use std::alloc::Global;
+
+// What waits in the ring in use, which is the taker's.
+fn waiting_here<T: Drop>(
+    source: &mut Source<T>,
+    feed: &mut Option<Feed<T>>,
+    tracks: &Consumer<Track<T>, Global, Chained>,
+    rail: &Producer<Track<T>, Global, Chained>,
+) -> usize
+    requires at { IsAt source.old (received tracks.now) }
+    requires all { received tracks.now ≡ sent rail.now }
+    requires stands { Stands feed.old rail.now }
+    ensures at { IsAt source.new (received tracks.now) × (given source.new ≡ given source.old) }
+    ensures stands { Stands feed.new rail.now × (in_use feed.new ≡ in_use feed.old) }
+    ensures waits { (given source.new ++ known source.new ≡ in_use feed.new) × (result ≡ length (known source.new)) }
+{
+    let Some(used) = feed else {
+        unreachable!();
+    };
+    source.items_beside(used)
+}
+
+// What waits in a line of which both ends are at hand.
+fn waiting_in<T: Drop>(
+    source: &mut Source<T>,
+    tracks: &mut Consumer<Track<T>, Global, Chained>,
+    ahead: &mut Ahead<T>,
+    feed: &mut Option<Feed<T>>,
+    rail: &mut Producer<Track<T>, Global, Chained>,
+) -> Option<usize>
+    requires reached { HasReached source.old ahead.old (received tracks.old) }
+    requires stands { Stands feed.old rail.old }
+    requires line { IsPair rail.old tracks.old }
+    ensures reached { HasReached source.new ahead.new (received tracks.new) }
+    ensures stands { Stands feed.new rail.new }
+    ensures line { SameConsumer tracks.old tracks.new × SameProducer rail.old rail.new }
+    ensures taken { taken_of source.new ahead.new (received tracks.new) ≡ taken_of source.old ahead.old (received tracks.old) }
+    ensures posted { posted_of feed.new rail.new ≡ posted_of feed.old rail.old }
+    ensures waits { (left : List T) × (taken_of source.new ahead.new (received tracks.new) ++ left ≡ posted_of feed.new rail.new) × IfSome result (λ n. n ≡ length left) }
+{
+    tracks.slots_beside(rail);
+    if let Ahead::Open = ahead {
+        *ahead = next_ahead(source, tracks);
+    }
+    tracks.slots_beside(rail);
+    match ahead {
+        Ahead::Open => Some(waiting_here(source, feed, tracks, rail)),
+        Ahead::Next(_) => None,
+        Ahead::Last => None,
+    }
+}
+
+impl<T: Drop> LineTaker<T> {
+    ghost use Rattle.std.specs.Prelude.{◌≡◌, ◌++◌, List, length, IfSome};
+    ghost use Rattle.hub_line.specs.Ends.{posted, taken, IsLine, SamePoster, SameTaker};
+
+    /// How many items wait, for a thread that has both ends: what was taken, followed by what
+    /// waits, is what was posted. `None` where they wait in more than one ring.
+    pub fn waiting_beside(&mut self, poster: &mut LinePoster<T>) -> Option<usize>
+        requires { IsLine poster.old self.old }
+        ensures taker { SameTaker self.old self.new × (taken self.new ≡ taken self.old) }
+        ensures poster { SamePoster poster.old poster.new × (posted poster.new ≡ posted poster.old) }
+        ensures waits { (left : List T) × (taken self.new ++ left ≡ posted poster.new) × IfSome result (λ n. n ≡ length left) }
+    {
+        waiting_in(
+            &mut self.source,
+            &mut self.rail,
+            &mut self.ahead,
+            &mut poster.feed,
+            &mut poster.rail,
+        )
+    }
+}

@@ -1,0 +1,65 @@
+//! The handle by which a C program holds a port.
+ghost use Rattle.std.specs.Prelude.{◌≡◌, Some, None, true, false};
+ghost use Rattle.hub_ports_c.specs.Held.{is_held};
+
+use crate::kept::Kept;
+use crate::parts::Parts;
+use crate::slot::Slot;
+use std::alloc::Global;
+use std::mem;
+
+/// What a C program holds. All bytes zero are a closed one.
+#[repr(C)]
+pub struct Handle {
+    pub(crate) slot: Slot,
+    pub(crate) is_open: bool,
+    ghost tells: { is_open ≡ is_held slot.held },
+}
+
+impl Drop for Handle {
+    fn drop(self) {
+        let Self { slot, is_open } = self;
+        if is_open {
+            drop(slot.into_parts().into_box());
+        }
+    }
+}
+
+impl Handle {
+    ghost use Rattle.std.specs.Prelude.{◌≡◌, Some, None, true};
+
+    pub(crate) fn closed(alloc: Global) -> Handle
+        ensures { result.slot.held ≡ None }
+    {
+        Handle {
+            slot: Slot::none(alloc),
+            is_open: false,
+        }
+    }
+
+    pub(crate) fn open(kept: Box<Kept>) -> Handle
+        ensures { result.slot.held ≡ Some kept.value }
+    {
+        Handle {
+            slot: Slot::of(Parts::of(kept)),
+            is_open: true,
+        }
+    }
+
+    /// Takes what an open handle holds out of it, which is closed then.
+    pub(crate) fn take(&mut self, alloc: Global) -> Box<Kept>
+        requires { self.old.is_open ≡ true }
+        ensures { (Some result.value ≡ self.old.slot.held) × (self.new.slot.held ≡ None) }
+    {
+        mem::replace(self, Handle::closed(alloc)).into_kept()
+    }
+
+    // What an open handle holds.
+    fn into_kept(self) -> Box<Kept>
+        requires { self.is_open ≡ true }
+        ensures { Some result.value ≡ self.slot.held }
+    {
+        let Self { slot, is_open: _ } = self;
+        slot.into_parts().into_box()
+    }
+}

@@ -1,0 +1,220 @@
+//! The calls for a port.
+ghost use Rattle.std.specs.Prelude.{◌≡◌, ◌⊎◌, None, false, true};
+ghost use Rattle.hub_ports_c.specs.Held.{Both, BothNew, IsNamed, is_grave_in, is_port_in};
+ghost use Rattle.hub_ports_c.specs.Kept.{AtPort, AtGrave, Becomes, Closes, FindsNone, HandsBack, HandsBackLast, HandsBackNone};
+ghost use Rattle.hub_ports_c.specs.Kept.{NewPeers, Posts, PostsNothing, RefusesClosed, Takes, TakesLast, TakesNone, Waits};
+
+use crate::handle::Handle;
+use crate::kept::Kept;
+use crate::message::Message;
+use crate::status::{DONE, NO_MEMORY, WRONG_STATE};
+use hub_channel::open_channel;
+use std::alloc::Global;
+
+/// Opens the two ports of a channel in two closed handles. The host names the channel.
+#[unsafe(no_mangle)]
+pub extern "C" fn varukoni_channel_open(
+    alloc: Global,
+    left: &mut Handle,
+    right: &mut Handle,
+    name: u64,
+) -> u8
+    ensures opened { result ≡ 0 → BothNew (NewPeers name) left.old.slot.held right.old.slot.held left.new.slot.held right.new.slot.held }
+    ensures refused { (result ≡ 0) ⊎ ((left.new ≡ left.old) × (right.new ≡ right.old)) }
+    ensures other { result ≡ 5 → (left.old.is_open ≡ true) ⊎ (right.old.is_open ≡ true) }
+    ensures statuses { (result ≡ 0) ⊎ ((result ≡ 3) ⊎ (result ≡ 5)) }
+{
+    if left.is_open || right.is_open {
+        return WRONG_STATE;
+    }
+    let Ok((one, other)) = open_channel(alloc, name) else {
+        return NO_MEMORY;
+    };
+    let Ok(one) = Box::new(alloc, Kept::Port(one)) else {
+        return NO_MEMORY;
+    };
+    let Ok(other) = Box::new(alloc, Kept::Port(other)) else {
+        return NO_MEMORY;
+    };
+    *left = Handle::open(one);
+    *right = Handle::open(other);
+    DONE
+}
+
+/// Posts a message, and says whom to wake for it.
+#[unsafe(no_mangle)]
+pub extern "C" fn varukoni_port_post(
+    alloc: Global,
+    handle: &mut Handle,
+    message: &Message,
+    wake: &mut u64,
+) -> u8
+    ensures posted { result ≡ 0 → Both (AtPort (Posts message.now)) handle.old.slot.held handle.new.slot.held }
+    ensures no_memory { result ≡ 3 → Both (AtPort PostsNothing) handle.old.slot.held handle.new.slot.held }
+    ensures closed { result ≡ 6 → Both (AtPort RefusesClosed) handle.old.slot.held handle.new.slot.held }
+    ensures other { result ≡ 5 → (is_port_in handle.old.slot.held ≡ false) × (handle.new.slot.held ≡ handle.old.slot.held) }
+    ensures wake { (result ≡ 0) ⊎ (wake.new ≡ wake.old) }
+    ensures statuses { (result ≡ 0) ⊎ ((result ≡ 3) ⊎ ((result ≡ 5) ⊎ (result ≡ 6))) }
+{
+    if !handle.is_open {
+        return WRONG_STATE;
+    }
+    let mut kept = handle.take(alloc);
+    let status = kept.post(message, wake);
+    *handle = Handle::open(kept);
+    status
+}
+
+/// Takes the next message of a port that is started.
+#[unsafe(no_mangle)]
+pub extern "C" fn varukoni_port_take(
+    alloc: Global,
+    handle: &mut Handle,
+    message: &mut Message,
+) -> u8
+    ensures took { result ≡ 0 → Both (AtPort (Takes message.new)) handle.old.slot.held handle.new.slot.held }
+    ensures empty { result ≡ 1 → Both (AtPort TakesNone) handle.old.slot.held handle.new.slot.held }
+    ensures ended { result ≡ 2 → Both (AtPort TakesLast) handle.old.slot.held handle.new.slot.held }
+    ensures disabled { result ≡ 4 → Both (AtPort Waits) handle.old.slot.held handle.new.slot.held }
+    ensures other { result ≡ 5 → (is_port_in handle.old.slot.held ≡ false) × (handle.new.slot.held ≡ handle.old.slot.held) }
+    ensures message { (result ≡ 0) ⊎ (message.new ≡ message.old) }
+    ensures statuses { (result ≡ 0) ⊎ ((result ≡ 1) ⊎ ((result ≡ 2) ⊎ ((result ≡ 4) ⊎ (result ≡ 5)))) }
+{
+    if !handle.is_open {
+        return WRONG_STATE;
+    }
+    let mut kept = handle.take(alloc);
+    let status = kept.take(message);
+    *handle = Handle::open(kept);
+    status
+}
+
+/// Starts a port: its messages may be taken.
+#[unsafe(no_mangle)]
+pub extern "C" fn varukoni_port_start(alloc: Global, handle: &mut Handle) -> u8
+    ensures started { result ≡ 0 → Both (AtPort (Becomes true)) handle.old.slot.held handle.new.slot.held }
+    ensures other { result ≡ 5 → (is_port_in handle.old.slot.held ≡ false) × (handle.new.slot.held ≡ handle.old.slot.held) }
+    ensures statuses { (result ≡ 0) ⊎ (result ≡ 5) }
+{
+    if !handle.is_open {
+        return WRONG_STATE;
+    }
+    let mut kept = handle.take(alloc);
+    let status = kept.start();
+    *handle = Handle::open(kept);
+    status
+}
+
+/// Says by its token whom to wake for a port, and looks into it then.
+#[unsafe(no_mangle)]
+pub extern "C" fn varukoni_port_arm(
+    alloc: Global,
+    handle: &mut Handle,
+    token: u64,
+    old: &mut u64,
+) -> u8
+    ensures armed { (result ≡ 5) ⊎ Both (AtPort PostsNothing) handle.old.slot.held handle.new.slot.held }
+    ensures none { result ≡ 1 → Both (AtPort FindsNone) handle.old.slot.held handle.new.slot.held }
+    ensures other { result ≡ 5 → (is_port_in handle.old.slot.held ≡ false) × (handle.new.slot.held ≡ handle.old.slot.held) × (old.new ≡ old.old) }
+    ensures statuses { (result ≡ 0) ⊎ ((result ≡ 1) ⊎ (result ≡ 5)) }
+{
+    if !handle.is_open {
+        return WRONG_STATE;
+    }
+    let mut kept = handle.take(alloc);
+    let status = kept.arm(token, old);
+    *handle = Handle::open(kept);
+    status
+}
+
+/// Makes a port that of another owner, disabled, and looks into it then.
+#[unsafe(no_mangle)]
+pub extern "C" fn varukoni_port_adopt(
+    alloc: Global,
+    handle: &mut Handle,
+    token: u64,
+    old: &mut u64,
+) -> u8
+    ensures adopted { (result ≡ 5) ⊎ Both (AtPort (Becomes false)) handle.old.slot.held handle.new.slot.held }
+    ensures none { result ≡ 1 → Both (AtPort FindsNone) handle.old.slot.held handle.new.slot.held }
+    ensures other { result ≡ 5 → (is_port_in handle.old.slot.held ≡ false) × (handle.new.slot.held ≡ handle.old.slot.held) × (old.new ≡ old.old) }
+    ensures statuses { (result ≡ 0) ⊎ ((result ≡ 1) ⊎ (result ≡ 5)) }
+{
+    if !handle.is_open {
+        return WRONG_STATE;
+    }
+    let mut kept = handle.take(alloc);
+    let status = kept.adopt(token, old);
+    *handle = Handle::open(kept);
+    status
+}
+
+/// Closes a port, and leaves its grave in the handle. It gives back the port's own token, and says
+/// whom to wake for the peer.
+#[unsafe(no_mangle)]
+pub extern "C" fn varukoni_port_close(
+    alloc: Global,
+    handle: &mut Handle,
+    own: &mut u64,
+    peer: &mut u64,
+) -> u8
+    ensures closed { result ≡ 0 → Both (Closes) handle.old.slot.held handle.new.slot.held }
+    ensures other { result ≡ 5 → (is_port_in handle.old.slot.held ≡ false) × (handle.new.slot.held ≡ handle.old.slot.held) × (own.new ≡ own.old) × (peer.new ≡ peer.old) }
+    ensures statuses { (result ≡ 0) ⊎ (result ≡ 5) }
+{
+    if !handle.is_open {
+        return WRONG_STATE;
+    }
+    let mut kept = handle.take(alloc);
+    let status = kept.close(own, peer);
+    *handle = Handle::open(kept);
+    status
+}
+
+/// Hands back the next message that was posted at a closed port.
+#[unsafe(no_mangle)]
+pub extern "C" fn varukoni_port_drain(
+    alloc: Global,
+    handle: &mut Handle,
+    message: &mut Message,
+) -> u8
+    ensures handed { result ≡ 0 → Both (AtGrave (HandsBack message.new)) handle.old.slot.held handle.new.slot.held }
+    ensures empty { result ≡ 1 → Both (AtGrave HandsBackNone) handle.old.slot.held handle.new.slot.held }
+    ensures ended { result ≡ 2 → Both (AtGrave HandsBackLast) handle.old.slot.held handle.new.slot.held }
+    ensures other { result ≡ 5 → (is_grave_in handle.old.slot.held ≡ false) × (handle.new.slot.held ≡ handle.old.slot.held) }
+    ensures message { (result ≡ 0) ⊎ (message.new ≡ message.old) }
+    ensures statuses { (result ≡ 0) ⊎ ((result ≡ 1) ⊎ ((result ≡ 2) ⊎ (result ≡ 5))) }
+{
+    if !handle.is_open {
+        return WRONG_STATE;
+    }
+    let mut kept = handle.take(alloc);
+    let status = kept.drain(message);
+    *handle = Handle::open(kept);
+    status
+}
+
+/// The number by which the host has named the channel of a port: its two ports have the same.
+#[unsafe(no_mangle)]
+pub extern "C" fn varukoni_port_name(alloc: Global, handle: &mut Handle, name: &mut u64) -> u8
+    ensures named { result ≡ 0 → (handle.new.slot.held ≡ handle.old.slot.held) × IsNamed name.new handle.old.slot.held }
+    ensures other { result ≡ 5 → (is_port_in handle.old.slot.held ≡ false) × (handle.new.slot.held ≡ handle.old.slot.held) × (name.new ≡ name.old) }
+    ensures statuses { (result ≡ 0) ⊎ (result ≡ 5) }
+{
+    if !handle.is_open {
+        return WRONG_STATE;
+    }
+    let kept = handle.take(alloc);
+    let status = kept.name(name);
+    *handle = Handle::open(kept);
+    status
+}
+
+/// Closes a handle, whatever it holds, and frees its memory. A port is closed so, and what waits in
+/// it is discarded. A closed handle stays closed.
+#[unsafe(no_mangle)]
+pub extern "C" fn varukoni_port_drop(alloc: Global, handle: &mut Handle)
+    ensures closed { (handle.new.slot.held ≡ None) × (handle.new.is_open ≡ false) }
+{
+    *handle = Handle::closed(alloc);
+}

@@ -1,0 +1,51 @@
+"""What tools/build asks of the toolchain's own module `rtlib`, which no command of `rt` offers.
+
+  rtinside.py BIN sums FOLDER     the sum that rt has for the sources of each crate below a folder
+  rtinside.py BIN prove JOBS      proves the crate of the working folder as `rt ci` does
+
+`rt ci` leaves libraries without the sums by which `rt lib` takes them, and `rt lib` can't prove
+into a library that holds statements and no proofs, which the crates above read in a third of the
+time. No other file of this repository knows such names: where a toolchain has others this ends
+with 75, and tools/build does without. BIN is the folder of the toolchain's commands.
+"""
+
+import os
+import pathlib
+import sys
+
+OTHER_TOOLCHAIN = 75
+
+
+def tell_sums(rtlib, folder):
+    for crate in rtlib.crates_below(folder):
+        print(crate.name, crate.stamp())
+    return 0
+
+
+def prove(rtlib, jobs):
+    crate_class, here = rtlib.Crate, os.getcwd()
+    crate_class.cuts_libraries = "--statements" in rtlib.help_of("build")
+    crate = crate_class(here, rtlib.root_above(here) or here, {})
+    stamp, build, file = crate.stamp(), crate.build_rlib, pathlib.Path("out/rlib/stamp")
+    rtlib.guarded()
+    # The locks are held as long as this lives.
+    held = rtlib.lock([*crate.below(), crate])
+    crate_class.may_have_bugs = crate_class.may_be_empty = crate_class.may_call_c = True
+    status = 0 if crate.is_built() else build(["--jobs", jobs], True)
+    if status == 0 and stamp == crate.stamp():
+        file.write_text(stamp)
+    del held
+    return status
+
+
+def main(bin_folder, word, argument):
+    sys.path.insert(0, bin_folder)
+    try:
+        import rtlib
+        return {"sums": tell_sums, "prove": prove}[word](rtlib, argument)
+    except (ImportError, AttributeError):
+        return OTHER_TOOLCHAIN
+
+
+if __name__ == "__main__":
+    sys.exit(main(*sys.argv[1:]))
