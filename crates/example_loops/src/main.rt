@@ -33,7 +33,12 @@ fn hear<R: Wait>(rt: &R, shared: &Shared, event_loop: &mut Loop) -> Option<()> {
 fn end<R: Wait>(rt: &R, alloc: Global, shared: &Shared, mut event_loop: Loop) -> Option<String> {
     let heard = String::from_str(alloc, event_loop.handler_mut().text()?).ok()?;
     event_loop
-        .end(rt, &shared.hub, &shared.directory, &shared.roster)
+        .end(
+            rt,
+            &shared.hub,
+            &shared.directory,
+            &mut shared.roster.lock(),
+        )
         .ok()?;
     Some(heard)
 }

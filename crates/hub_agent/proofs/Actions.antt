@@ -6,6 +6,7 @@ use Rattle.slab.specs.Slab.{Slab, get, with_value}
 use Rattle.hub_envelope.specs.declared.ids.AgentId.{AgentId}
 use Rattle.hub_envelope.specs.declared.ids.EndId.{EndId}
 use Rattle.hub_envelope.specs.declared.posted.Posted.{Posted}
+use Rattle.hub_broadcast.specs.Members.{SubscriptionSeat}
 use Rattle.hub_clients.specs.Handing.{taker_of}
 use Rattle.hub_clients.specs.declared.handed_queue.HandedQueue.{HandedQueue}
 use Rattle.hub_clients.specs.declared.handed_queue.HandedQueue.TheVariants as handed
@@ -378,9 +379,9 @@ not_fetched_accounts before now old new end same came is notes kept =
     omega (arith, a, b, c))
 
 -- an end that was closed
-pub closed_accounts : {X E : Type 0} (result : Result X E) (before now : AgentState) (old : Slab Held) (end : EndId) (closed : ClosedEnd) (entries : List LogEntry) → IsClosing end entries → old ≡ before.ends → ClosesEnd old now.ends end closed
+pub closed_accounts : {X E : Type 0} (result : Result X E) (before now : AgentState) {was is : Option (List SubscriptionSeat)} (old : Slab Held) (end : EndId) (closed : ClosedEnd) (entries : List LogEntry) → IsClosing end entries → old ≡ before.ends → ClosesEnd old now.ends was is end closed
     → OnOk result (Writes entries before.notes now.notes) → now.kept ≡ before.kept → OnOk result (Accounts before now)
-closed_accounts (Ok x) before now old end closed entries closing same (h, is, more, left) written kept =
+closed_accounts (Ok x) before now old end closed entries closing same (h, is, more, done, left) written kept =
     accounts_by before now entries written (λ none. kept ∙ none) (λ e.
     let a = ap (λ s. held_in s e) same in
     let b = holds_end now.ends old h end more is e in

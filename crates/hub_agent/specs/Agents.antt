@@ -10,6 +10,7 @@ use Rattle.hub_logging.specs.Notes.{Notes}
 use Rattle.hub_loop.specs.declared.held.Held.{Held}
 use Rattle.hub_loop.specs.declared.held.Held.TheVariants.{Port, Member}
 use Rattle.hub_loop.specs.Adopting.{HoldsMore}
+use Rattle.hub_loop.specs.Closing.{left_by}
 use Rattle.hub_loop.specs.Holding.{end_held}
 use Rattle.hub_loop.specs.Looking.{Holds, HoldsNoEnd, HoldsNoMember, HoldsNoPort}
 use Rattle.hub_loop.specs.Starting.{StartsClient, StartsPort}
@@ -65,6 +66,10 @@ KeepsButNotes before now = now ≡ record before { notes = now.notes }
 abbrev pub KeepsButCasts : AgentState → AgentState → Type 0
 KeepsButCasts before now = now ≡ record before { notes = now.notes; roster = now.roster }
 
+-- Nothing has changed but its notes, what its loop holds and the roster.
+abbrev pub KeepsButClosings : AgentState → AgentState → Type 0
+KeepsButClosings before now = now ≡ record before { notes = now.notes; ends = now.ends; roster = now.roster }
+
 -- Nothing but what its loop holds has changed.
 abbrev pub KeepsButEnds : AgentState → AgentState → Type 0
 KeepsButEnds before now = now ≡ record before { ends = now.ends }
@@ -91,11 +96,11 @@ StartsEnd end before now =
 abbrev pub StartsQueue : EndId → AgentState → AgentState → Type 0
 StartsQueue queue before now = KeepsButEnds before now × ((is_held : Bool) × StartsClient before.ends now.ends queue is_held)
 
--- The end of this number is held no more; where it wasn't held nothing was written, and nothing has changed.
+-- The end of this number is held no more, and a member has left the roster; where it wasn't held nothing was written, and nothing has changed.
 abbrev pub ClosesHeld : EndId → AgentState → AgentState → Type 0
 ClosesHeld end before now =
     (HoldsNoEnd before.ends end × (now ≡ before))
-    ⊎ ((held : Held) × (end_held held ≡ Some end) × HoldsMore now.ends before.ends held)
+    ⊎ ((held : Held) × (end_held held ≡ Some end) × HoldsMore now.ends before.ends held × (now.roster ≡ left_by held before.roster))
 
 -- a look for the order to end at the agent's own seat, which gave this answer
 abbrev pub LooksFor : AgentState → Bool → AgentState → Type 0
@@ -114,7 +119,7 @@ Changes (Send queue body transfer) before now =
 Changes (Cast member body) before now = KeepsButCasts before now × CastsFrom member body before now
 Changes (Start end) before now = StartsEnd end before now
 Changes (Loaded queue) before now = StartsQueue queue before now
-Changes (Close end) before now = KeepsElse before now × ClosesHeld end before now
+Changes (Close end) before now = KeepsButClosings before now × ClosesHeld end before now
 Changes (Order to) before now = now ≡ record before { peers = with_peer ordered to.0 before.peers }
 Changes (Event event) before now = now ≡ record before { life = option_map (λ p. after p event) before.life }
 Changes (Hand to) before now =

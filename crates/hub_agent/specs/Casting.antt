@@ -1,7 +1,7 @@
 -- What a cast of an agent comes to.
 use Rattle.std.specs.Prelude.{◌≡◌, ◌≢◌, ◌⊎◌, ℕ, All, List, [], Option, IfSome}
 use Rattle.hub_broadcast.specs.Casting.{IsBroadcast, cast_draft}
-use Rattle.hub_broadcast.specs.Lending.{IsDoneIn}
+use Rattle.hub_locked.specs.Lending.{IsDoneIn}
 use Rattle.hub_broadcast.specs.Members.{MemberSeat, SubscriptionSeat}
 use Rattle.hub_broadcast.specs.declared.cast_outcome.CastOutcome.{CastOutcome}
 use Rattle.hub_envelope.specs.declared.ids.EndId.{EndId}

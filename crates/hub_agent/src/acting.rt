@@ -9,7 +9,7 @@ ghost use Rattle.hub_agent.specs.Agents.{
   Changes,
   ClosesHeld,
   KeepsButEnds,
-  KeepsElse,
+  KeepsButClosings,
   StartsEnd,
   ordered,
   with_peer,
@@ -22,15 +22,16 @@ ghost use Rattle.hub_trace.specs.declared.log_entry.LogEntry.{LogEntry};
 
 use crate::agent::Agent;
 use crate::awaited::Awaited;
-use crate::casting::Casts;
 use crate::logging::log_closed_end;
 use crate::peer::{Peer, order_all};
 use crate::posting::Way;
 use crate::shared::Shared;
 use hub_acting::{Acted, Actor, act_all};
+use hub_broadcast::Roster;
 use hub_clients::{Directory, HandError};
 use hub_envelope::{AgentId, EndId, OutOfMemory};
 use hub_life::{Event, Life};
+use hub_locked::Lends;
 use hub_loop::{Checkpoint, Held};
 use hub_script::{ActionKind, Script};
 use std::sync::Wait;
@@ -92,7 +93,7 @@ fn wake(peers: &mut Vec<Peer>, agent: AgentId)
     }
 }
 
-impl<'s, C: Checkpoint, K: Casts + Drop> Agent<'s, C, K> {
+impl<'s, C: Checkpoint, K: Lends<Roster> + Drop> Agent<'s, C, K> {
     /// Does its actions. Where memory runs out all agents are ordered to end, so that none waits
     /// for this one.
     pub(crate) fn act_or_order<R: Wait>(
@@ -129,10 +130,10 @@ impl<'s, C: Checkpoint, K: Casts + Drop> Agent<'s, C, K> {
             × Writes entries self.old.notes self.new.notes) }
         ensures held { OnOk result (ClosesHeld end self.old self.new) }
         ensures own { OnOk result (Accounts self.old self.new) }
-        ensures rest { KeepsElse self.old self.new }
+        ensures rest { KeepsButClosings self.old self.new }
     {
-        let Shared { hub, roster, .. } = self.shared;
         self.graves.reserve(1)?;
+        let (hub, roster) = (&self.shared.hub, &mut self.roster);
         let Some(closed) = self.event_loop.close(rt, hub, roster, end) else {
             return Ok(());
         };
@@ -164,7 +165,7 @@ impl<'s, C: Checkpoint, K: Casts + Drop> Agent<'s, C, K> {
 }
 
 // It looks for the order at a seat of its own.
-impl<'s, C: Checkpoint, K: Casts + Drop> Actor for Agent<'s, C, K> {
+impl<'s, C: Checkpoint, K: Lends<Roster> + Drop> Actor for Agent<'s, C, K> {
     ghost use Rattle.hub_agent.specs.Acting.{Acts};
     ghost use Rattle.hub_agent.specs.Agents.{LooksFor};
 

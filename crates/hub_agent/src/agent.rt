@@ -17,14 +17,15 @@ ghost use Rattle.hub_trace.specs.declared.limits.TheConstants.{MAX_AGENT};
 ghost use Rattle.hub_trace.specs.declared.log_entry.LogEntry.{LogEntry};
 
 use crate::awaited::Awaited;
-use crate::casting::Casts;
 use crate::ending::finish_loop;
 use crate::logging::{epoch_of, log_adopted};
 use crate::peer::{Peer, order_all};
 use crate::shared::Shared;
 use hub_acting::Acted;
+use hub_broadcast::Roster;
 use hub_envelope::{AgentId, EndId, OutOfMemory};
 use hub_life::{Life, Order};
+use hub_locked::Lends;
 use hub_logging::Scribe;
 use hub_loop::{Checkpoint, EventLoop, Held, LoopError, Turn};
 use hub_queue::{Grave, Steps};
@@ -48,11 +49,11 @@ pub struct AgentRun {
 pub(crate) type AgentLoop<'s, C> = EventLoop<Scribe, &'s C>;
 
 /// An agent of a run, over whoever casts for it.
-pub struct Agent<'s, C: Checkpoint, K: Casts + Drop> {
+pub struct Agent<'s, C: Checkpoint, K: Lends<Roster> + Drop> {
     pub(crate) alloc: Global,
     pub(crate) shared: &'s Shared,
     /// The roster over which it casts.
-    pub(crate) caster: K,
+    pub(crate) roster: K,
     pub(crate) event_loop: AgentLoop<'s, C>,
     /// Keeps its log. The loop has it in a turn alone, as its handler.
     pub(crate) scribe: Scribe,
@@ -67,12 +68,12 @@ pub struct Agent<'s, C: Checkpoint, K: Casts + Drop> {
 }
 
 // By hand, so that whoever drops one makes one call, and its proof has no cases of its fields.
-impl<'s, C: Checkpoint, K: Casts + Drop> Drop for Agent<'s, C, K> {
+impl<'s, C: Checkpoint, K: Lends<Roster> + Drop> Drop for Agent<'s, C, K> {
     fn drop(self) {
         let Agent {
             alloc: _,
             shared: _,
-            caster,
+            roster,
             event_loop,
             scribe,
             order,
@@ -80,7 +81,7 @@ impl<'s, C: Checkpoint, K: Casts + Drop> Drop for Agent<'s, C, K> {
             life: _,
             graves,
         } = self;
-        drop(caster);
+        drop(roster);
         drop(event_loop);
         drop(scribe);
         drop(order);
@@ -89,7 +90,7 @@ impl<'s, C: Checkpoint, K: Casts + Drop> Drop for Agent<'s, C, K> {
     }
 }
 
-impl<'s, C: Checkpoint, K: Casts + Drop> Model for Agent<'s, C, K> {
+impl<'s, C: Checkpoint, K: Lends<Roster> + Drop> Model for Agent<'s, C, K> {
     ghost use Rattle.hub_agent.specs.Agents.{AgentState};
 
     ghost Value = { AgentState };
@@ -101,7 +102,7 @@ impl<'s, C: Checkpoint, K: Casts + Drop> Model for Agent<'s, C, K> {
       order = a.order;
       peers = a.peers.items;
       life = a.life;
-      roster = K.shown a.caster;
+      roster = K.shown a.roster;
     } };
 }
 
@@ -120,7 +121,7 @@ fn log_all_adopted<C: Checkpoint>(
     Ok(())
 }
 
-impl<'s, C: Checkpoint, K: Casts + Drop> Agent<'s, C, K> {
+impl<'s, C: Checkpoint, K: Lends<Roster> + Drop> Agent<'s, C, K> {
     /// Does the actions of the agent of that number, ends the loop, and answers the log and how
     /// far it came. Where memory runs out all agents are ordered to end, so that none waits for
     /// this one.
@@ -153,7 +154,7 @@ impl<'s, C: Checkpoint, K: Casts + Drop> Agent<'s, C, K> {
         let Agent {
             alloc,
             shared,
-            caster: _,
+            mut roster,
             event_loop,
             scribe,
             order: _,
@@ -161,7 +162,7 @@ impl<'s, C: Checkpoint, K: Casts + Drop> Agent<'s, C, K> {
             life: _,
             graves,
         } = self;
-        match finish_loop(alloc, rt, shared, event_loop, scribe, graves) {
+        match finish_loop(alloc, rt, shared, &mut roster, event_loop, scribe, graves) {
             Ok(log) => Ok(log),
             Err(error) => {
                 order_all(&mut peers);

@@ -8,7 +8,9 @@ ghost use Rattle.hub_trace.specs.declared.log_entry.LogEntry.{LogEntry};
 use crate::agent::AgentLoop;
 use crate::logging::{log_close, log_notice};
 use crate::shared::Shared;
+use hub_broadcast::Roster;
 use hub_envelope::{EndId, OutOfMemory};
+use hub_locked::Lends;
 use hub_logging::Scribe;
 use hub_loop::{Checkpoint, ClosedPort, Ended, LoopError};
 use hub_ports::Noticed;
@@ -19,16 +21,13 @@ use std::collections::{BTreeMap, BTreeSet};
 use std::sync::Wait;
 
 // Ends the loop. Where memory runs out it goes on once.
-fn end_loop<C: Checkpoint, R: Wait>(
+fn end_loop<C: Checkpoint, K: Lends<Roster>, R: Wait>(
     rt: &R,
     shared: &Shared,
+    roster: &mut K,
     event_loop: AgentLoop<'_, C>,
 ) -> Result<Ended, OutOfMemory> {
-    let Shared {
-        hub,
-        directory,
-        roster,
-    } = shared;
+    let Shared { hub, directory } = shared;
     let event_loop = match event_loop.end(rt, hub, directory, roster) {
         Ok(ended) => return Ok(ended),
         Err((LoopError::OutOfMemory, event_loop)) => event_loop,
@@ -126,10 +125,11 @@ fn log_closing(
 
 /// Ends the loop of an agent, discards what waits at the ends that it has closed, and answers the
 /// log.
-pub(crate) fn finish_loop<C: Checkpoint, R: Wait>(
+pub(crate) fn finish_loop<C: Checkpoint, K: Lends<Roster>, R: Wait>(
     alloc: Global,
     rt: &R,
     shared: &Shared,
+    roster: &mut K,
     event_loop: AgentLoop<'_, C>,
     mut scribe: Scribe,
     graves: Vec<Grave>,
@@ -140,7 +140,7 @@ pub(crate) fn finish_loop<C: Checkpoint, R: Wait>(
         lost e log.1 ≤ lost e scribe.log.1 + held_by event_loop.entry.holding.held e) }
 {
     let held = event_loop.ends();
-    let ended = end_loop(rt, shared, event_loop);
+    let ended = end_loop(rt, shared, roster, event_loop);
     let swept = sweep_all(rt, graves);
     log_ended(alloc, &mut scribe, &held?, &ended?)?;
     swept?;

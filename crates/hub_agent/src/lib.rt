@@ -18,7 +18,6 @@ mod posting;
 mod shared;
 
 pub use agent::{Agent, AgentRun};
-pub use casting::Casts;
 pub use hub_acting::Acted;
 pub use hub_envelope::OutOfMemory;
 pub use opening::Seat;

@@ -5,11 +5,12 @@ ghost use Rattle.hub_agent.specs.Agents.{KeepsButEnds};
 ghost use Rattle.hub_loop.specs.Adopting.{HoldsMore};
 
 use crate::agent::Agent;
-use crate::casting::Casts;
 use crate::peer::Peer;
 use crate::shared::Shared;
+use hub_broadcast::Roster;
 use hub_envelope::{AgentId, OutOfMemory};
 use hub_life::{Life, Order};
+use hub_locked::Lends;
 use hub_logging::Scribe;
 use hub_loop::{Checkpoint, EventLoop, Held};
 use hub_queue::Listener;
@@ -40,13 +41,13 @@ fn life_of(kind: AgentKind) -> Option<Life> {
     }
 }
 
-impl<'s, C: Checkpoint, K: Casts + Drop> Agent<'s, C, K> {
+impl<'s, C: Checkpoint, K: Lends<Roster> + Drop> Agent<'s, C, K> {
     /// An agent that holds nothing yet, and casts over this roster.
     pub fn open(
         alloc: Global,
         kind: AgentKind,
         shared: &'s Shared,
-        caster: K,
+        roster: K,
         checkpoint: &'s C,
         seat: Seat,
     ) -> Result<Agent<'s, C, K>, OutOfMemory>
@@ -54,7 +55,7 @@ impl<'s, C: Checkpoint, K: Casts + Drop> Agent<'s, C, K> {
         ensures kept { IfOk result (λ opened. opened.kept ≡ None) }
         ensures order { IfOk result (λ opened. opened.order ≡ seat.for_agent) }
         ensures peers { IfOk result (λ opened. opened.peers ≡ seat.peers.items) }
-        ensures roster { IfOk result (λ opened. opened.roster ≡ K.shown caster) }
+        ensures roster { IfOk result (λ opened. opened.roster ≡ K.shown roster) }
     {
         let Seat {
             number,
@@ -68,7 +69,7 @@ impl<'s, C: Checkpoint, K: Casts + Drop> Agent<'s, C, K> {
         Ok(Agent {
             alloc,
             shared,
-            caster,
+            roster,
             event_loop: EventLoop::open(alloc, number, for_loop, handler, checkpoint, listener)?,
             scribe,
             order: for_agent,

@@ -21,11 +21,13 @@ ghost use Rattle.hub_agent.specs.Posting.{
 ghost use Rattle.hub_trace.specs.declared.log_entry.LogEntry.{LogEntry};
 
 use crate::agent::{Agent, AgentLoop};
-use crate::casting::{Casts, cast_and_log};
+use crate::casting::cast_and_log;
 use crate::logging::log_answer;
 use crate::shared::Shared;
+use hub_broadcast::Roster;
 use hub_clients::DirectoryError;
 use hub_envelope::{AgentId, Body, EndId, OutOfMemory, Ports};
+use hub_locked::Lends;
 use hub_loop::{Checkpoint, Held, LoopError};
 use hub_ports::{Hub, Port, PortError};
 use hub_queue::{Grave, Posted};
@@ -102,26 +104,21 @@ fn ports_back(alloc: Global, answer: Result<Posted, PortError>) -> Vec<Port>
 }
 
 // Closes what can't be held for want of memory, so that it is swept with what was closed by
-// actions. A line is given back.
+// actions. A line is given back. No member of a roster comes here.
 fn bury<R: Wait>(rt: &R, shared: &Shared, graves: &mut Vec<Grave>, held: Held) {
-    let Shared {
-        hub,
-        directory,
-        roster,
-    } = shared;
-    match held.close(rt, hub, roster) {
+    match held.shut(rt, &shared.hub) {
         Ok(closed) => {
             if graves.reserve(1).is_ok() {
                 graves.push_reserved(closed.grave);
             }
         }
         Err(line) => {
-            let _refused = directory.give_back(rt, line);
+            let _refused = shared.directory.give_back(rt, line);
         }
     }
 }
 
-impl<'s, C: Checkpoint, K: Casts + Drop> Agent<'s, C, K> {
+impl<'s, C: Checkpoint, K: Lends<Roster> + Drop> Agent<'s, C, K> {
     /// Holds an end or a line. Where there is no memory an end is closed, so that nobody waits for
     /// what is posted there.
     pub(crate) fn hold<R: Wait>(&mut self, rt: &R, held: Held) -> Result<(), OutOfMemory>
@@ -263,6 +260,6 @@ impl<'s, C: Checkpoint, K: Casts + Drop> Agent<'s, C, K> {
             return Ok(());
         };
         let yard = &self.shared.hub.yard;
-        cast_and_log(rt, &mut self.caster, yard, source, body, &mut self.scribe)
+        cast_and_log(rt, &mut self.roster, yard, source, body, &mut self.scribe)
     }
 }

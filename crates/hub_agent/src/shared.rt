@@ -1,19 +1,17 @@
-use hub_broadcast::SharedRoster;
 use hub_clients::Directory;
 use hub_envelope::OutOfMemory;
 use hub_ports::Hub;
 use std::alloc::Global;
 use std::sync::Wait;
 
-/// What the agents of a run share.
+/// What the agents of a run share, but for the roster of broadcast channels: each has one way to
+/// that, the one over which it casts.
 #[derive(Drop)]
 pub struct Shared {
     /// The ports in flight and the posters of queues that moved.
     pub hub: Hub,
     /// The queues of clients and workers.
     pub directory: Directory,
-    /// The broadcast members.
-    pub roster: SharedRoster,
 }
 
 impl Shared {
@@ -22,18 +20,13 @@ impl Shared {
         Shared {
             hub: Hub::new(alloc),
             directory: Directory::new(alloc),
-            roster: SharedRoster::new(alloc),
         }
     }
 
     /// Closes the queues that nobody has fetched and the ports that nobody has received, and
     /// discards what waits for them. No log tells of it. Where memory runs out it goes on once.
     pub fn end<R: Wait>(self, rt: &R) -> Result<(), OutOfMemory> {
-        let Shared {
-            hub,
-            directory,
-            roster: _,
-        } = self;
+        let Shared { hub, directory } = self;
         directory.end(rt);
         let Err((OutOfMemory, hub)) = hub.end(rt) else {
             return Ok(());

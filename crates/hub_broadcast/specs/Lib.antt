@@ -1,7 +1,6 @@
 pub mod Casting
 pub mod Destinations
 pub mod Joining
-pub mod Lending
 pub mod Members
 pub mod Ranks
 pub mod Rising

@@ -7,21 +7,22 @@ ghost use Rattle.hub_envelope.specs.declared.limits.TheConstants.{MAX_ENDS};
 ghost use Rattle.hub_broadcast.specs.Casting.{AreDestinations, IsBroadcast, cast_draft};
 ghost use Rattle.hub_broadcast.specs.Destinations.{destinations_in, is_of_end};
 ghost use Rattle.hub_broadcast.specs.Joining.{IsJoined, IsNewMember};
-ghost use Rattle.hub_broadcast.specs.Lending.{IsDoneIn};
+ghost use Rattle.hub_locked.specs.Lending.{IsDoneIn};
 
 use crate::cast_error::CastError;
 use crate::cast_outcome::CastOutcome;
 use crate::join_error::JoinError;
-use crate::lends::Lends;
 use crate::member::Member;
+use crate::roster::Roster;
 use hub_depot::Depot;
 use hub_envelope::{AgentId, Body, EndId};
+use hub_locked::Lends;
 use hub_origin::Origin;
 use hub_queue::{Bell, Ends, Onward};
 use std::sync::Wait;
 
 /// Makes a member of the roster: `Roster::join`.
-pub(crate) fn join_in<L: Lends, R: Wait>(
+pub fn join_in<L: Lends<Roster>, R: Wait>(
     rt: &R,
     lender: &mut L,
     ends: &mut Ends,
@@ -51,7 +52,7 @@ pub(crate) fn join_in<L: Lends, R: Wait>(
 }
 
 /// Takes a member out of the roster: `Roster::leave`.
-pub(crate) fn leave_in<L: Lends, R: Wait>(rt: &R, lender: &mut L, end: EndId)
+pub fn leave_in<L: Lends<Roster>, R: Wait>(rt: &R, lender: &mut L, end: EndId)
     ensures { L.shown lender.new
         ≡ option_map (filter (λ s. not (is_of_end end s))) (L.shown lender.old) }
 {
@@ -59,7 +60,7 @@ pub(crate) fn leave_in<L: Lends, R: Wait>(rt: &R, lender: &mut L, end: EndId)
 }
 
 /// Casts from a member: `Roster::cast`.
-pub(crate) fn cast_in<L: Lends, R: Wait>(
+pub fn cast_in<L: Lends<Roster>, R: Wait>(
     rt: &R,
     lender: &mut L,
     yard: &Depot<Onward>,

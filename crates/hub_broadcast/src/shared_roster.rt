@@ -12,10 +12,11 @@ use crate::member::Member;
 use crate::roster::Roster;
 use hub_depot::Depot;
 use hub_envelope::{AgentId, Body, EndId};
+use hub_locked::Locked;
 use hub_origin::Origin;
 use hub_queue::{Bell, Ends, Onward};
 use std::alloc::Global;
-use std::sync::{Mutex, Wait};
+use std::sync::Wait;
 
 /// A roster that threads share.
 ///
@@ -32,15 +33,20 @@ use std::sync::{Mutex, Wait};
 /// ```
 #[derive(Drop)]
 pub struct SharedRoster {
-    roster: Mutex<Roster>,
+    roster: Locked<Roster>,
 }
 
 impl SharedRoster {
     /// A roster with no member. It takes no memory.
     pub fn new(alloc: Global) -> SharedRoster {
         SharedRoster {
-            roster: Mutex::new(Roster::new(alloc)),
+            roster: Locked::new(Roster::new(alloc)),
         }
+    }
+
+    /// The roster behind its lock, for code that is generic over who lends it.
+    pub fn lock(&self) -> &Locked<Roster> {
+        &self.roster
     }
 
     /// Makes a broadcast channel: `Roster::join` under the lock.

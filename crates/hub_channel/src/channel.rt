@@ -2,7 +2,8 @@
 ghost use Rattle.std.specs.Prelude.{◌≡◌, [], false, IfOk};
 ghost use Rattle.hub_channel.specs.Ports.{sent, got, ArePeers};
 
-use crate::port::{ChannelPort, NO_TOKEN};
+use crate::port::ChannelPort;
+use crate::token::NO_TOKEN;
 use hub_line::{LinePoster, LineTaker, OutOfMemory, open_line};
 use std::alloc::Global;
 use std::sync::Arc;
@@ -15,9 +16,11 @@ pub fn open_channel<M: Drop>(
     name: u64,
 ) -> Result<(ChannelPort<M>, ChannelPort<M>), OutOfMemory>
     ensures peers { IfOk result (λ ports. ArePeers ports.0 ports.1) }
-    ensures new { IfOk result (λ ports. (sent ports.0 ≡ []) × (got ports.0 ≡ []) × (sent ports.1 ≡ []) × (got ports.1 ≡ [])) }
+    ensures new { IfOk result (λ ports. (sent ports.0 ≡ []) × (got ports.0 ≡ [])
+        × (sent ports.1 ≡ []) × (got ports.1 ≡ [])) }
     ensures named { IfOk result (λ ports. (ports.0.name ≡ name) × (ports.1.name ≡ name)) }
-    ensures disabled { IfOk result (λ ports. (ports.0.is_started ≡ false) × (ports.1.is_started ≡ false)) }
+    ensures disabled { IfOk result (λ ports. (ports.0.is_started ≡ false)
+        × (ports.1.is_started ≡ false)) }
 {
     let (to, from_first) = open_line(alloc)?;
     let (back, from) = open_line(alloc)?;

@@ -1,11 +1,9 @@
 //! One of the two ports of a channel.
 use crate::taken::PortTaken;
+use crate::token::take_token;
 use hub_line::{LineGrave, LinePoster, LineTaken, LineTaker, NotPosted};
 use std::sync::Arc;
 use std::sync::atomic::{AtomicU64, Ordering};
-
-/// No token: nobody is to be woken.
-pub(crate) const NO_TOKEN: u64 = 0;
 
 /// One of the two ports of a channel, for messages of one type.
 #[derive(Drop)]
@@ -39,20 +37,15 @@ pub struct ClosedPort<M> {
     pub wake: u64,
 }
 
-// Takes the token out of a word. A word with none is only loaded.
-fn token_of(word: &AtomicU64) -> u64 {
-    if word.load(Ordering::SeqCst) == NO_TOKEN {
-        return NO_TOKEN;
-    }
-    word.swap(NO_TOKEN, Ordering::SeqCst)
-}
-
 impl<M: Drop> ChannelPort<M> {
     ghost use Rattle.std.specs.Prelude.{◌≡◌, ◌↔◌, [], ◌∷◌, ◌++◌, true, false, OnOk, IfErr, IsFalse};
-    ghost use Rattle.hub_line.specs.Ends.{taken, IsOver, IsInOrder, HasEnded, HasLooked, HasNoneLeft, SameTaker, SamePoster};
+    ghost use Rattle.hub_line.specs.Ends.{taken, IsOver, IsInOrder, HasEnded, HasLooked};
+    ghost use Rattle.hub_line.specs.Ends.{HasNoneLeft, HasSome, SameTaker, SamePoster};
     ghost use Rattle.hub_line.specs.declared.poster.NotPosted.TheVariants.{Closed};
-    ghost use Rattle.hub_channel.specs.Ports.{got, sent, Brought, NothingGot, NothingSent, SameEnds};
-    ghost use Rattle.hub_channel.specs.declared.taken.PortTaken.TheVariants.{Empty, Ended, Disabled};
+    ghost use Rattle.hub_channel.specs.Ports.{got, sent, Brought, NothingGot, NothingSent};
+    ghost use Rattle.hub_channel.specs.Ports.{SameEnds};
+    ghost use Rattle.hub_channel.specs.declared.taken.PortTaken.TheVariants.{Empty, Ended};
+    ghost use Rattle.hub_channel.specs.declared.taken.PortTaken.TheVariants.{Disabled};
 
     /// The number by which the host has named the channel: its two ports have the same.
     pub fn name(&self) -> u64
@@ -63,7 +56,8 @@ impl<M: Drop> ChannelPort<M> {
 
     /// Messages may be taken from now on.
     pub fn start(&mut self)
-        ensures same { SameEnds self.old self.new × NothingGot self.old self.new × NothingSent self.old self.new }
+        ensures same { SameEnds self.old self.new × NothingGot self.old self.new
+            × NothingSent self.old self.new }
         ensures started { self.new.is_started ≡ true }
     {
         self.is_started = true;
@@ -71,25 +65,30 @@ impl<M: Drop> ChannelPort<M> {
 
     /// Posts a message at the peer, and answers whom to wake for it, or 0. After an error nothing
     /// was posted, and the message comes back.
+    #[inline(always)]
     pub fn post(&mut self, message: M) -> Result<u64, (NotPosted, M)>
         ensures posted { OnOk result (sent self.new ≡ sent self.old ++ message ∷ []) }
         ensures refused { IfErr result (λ e. (e.1 ≡ message) × NothingSent self.old self.new) }
         ensures closed { IfErr result (λ e. (e.0 ≡ Closed) ↔ IsOver self.new.to) }
-        ensures others { SameEnds self.old self.new × NothingGot self.old self.new × (self.new.is_started ≡ self.old.is_started) }
+        ensures others { SameEnds self.old self.new × NothingGot self.old self.new
+            × (self.new.is_started ≡ self.old.is_started) }
     {
         self.to.post(message)?;
-        Ok(token_of(&self.there))
+        Ok(take_token(&self.there))
     }
 
     /// Takes the next message, where the port is started. `Ended` comes only where the peer is
     /// closed and each message that it has ever posted here was taken.
+    #[inline(always)]
     pub fn take(&mut self) -> PortTaken<M>
         ensures took { Brought (got self.old) result (got self.new) }
-        ensures empty { result ≡ Empty → HasNoneLeft self.new.from × HasLooked self.old.from self.new.from }
+        ensures empty { result ≡ Empty → HasNoneLeft self.new.from
+            × HasLooked self.old.from self.new.from }
         ensures ended { result ≡ Ended → HasEnded self.new.from }
         ensures disabled { (result ≡ Disabled) ↔ (self.old.is_started ≡ false) }
         ensures order { IsInOrder self.new.from }
-        ensures others { SameEnds self.old self.new × NothingSent self.old self.new × (self.new.is_started ≡ self.old.is_started) }
+        ensures others { SameEnds self.old self.new × NothingSent self.old self.new
+            × (self.new.is_started ≡ self.old.is_started) }
     {
         if !self.is_started {
             return PortTaken::Disabled;
@@ -106,9 +105,12 @@ impl<M: Drop> ChannelPort<M> {
 
     /// Says by its token whom to wake for this port, and looks into it then.
     pub fn arm(&mut self, token: u64) -> Armed
-        ensures same { SameEnds self.old self.new × NothingGot self.old self.new × NothingSent self.old self.new }
+        ensures same { SameEnds self.old self.new × NothingGot self.old self.new
+            × NothingSent self.old self.new }
         ensures started { self.new.is_started ≡ self.old.is_started }
-        ensures none { result.waits ≡ false → HasNoneLeft self.new.from × HasLooked self.old.from self.new.from }
+        ensures some { result.waits ≡ true → HasSome self.new.from }
+        ensures none { result.waits ≡ false → HasNoneLeft self.new.from
+            × HasLooked self.old.from self.new.from }
     {
         let old = self.here.swap(token, Ordering::SeqCst);
         let waits = self.from.has_some();
@@ -118,9 +120,12 @@ impl<M: Drop> ChannelPort<M> {
     /// Makes this the port of another owner, by its token: the port is disabled until that owner
     /// starts it. Then looks into it.
     pub fn adopt(&mut self, token: u64) -> Armed
-        ensures same { SameEnds self.old self.new × NothingGot self.old self.new × NothingSent self.old self.new }
+        ensures same { SameEnds self.old self.new × NothingGot self.old self.new
+            × NothingSent self.old self.new }
         ensures disabled { self.new.is_started ≡ false }
-        ensures none { result.waits ≡ false → HasNoneLeft self.new.from × HasLooked self.old.from self.new.from }
+        ensures some { result.waits ≡ true → HasSome self.new.from }
+        ensures none { result.waits ≡ false → HasNoneLeft self.new.from
+            × HasLooked self.old.from self.new.from }
     {
         self.is_started = false;
         self.arm(token)
@@ -129,7 +134,8 @@ impl<M: Drop> ChannelPort<M> {
     /// Closes the port. The peer is told behind all that was posted there, and its posts are
     /// refused from its next call on. What it has posted until then is handed back by the grave.
     pub fn close(self) -> ClosedPort<M>
-        ensures grave { (taken result.grave.taker ≡ got self) × SameTaker self.from result.grave.taker }
+        ensures grave { (taken result.grave.taker ≡ got self)
+            × SameTaker self.from result.grave.taker }
     {
         let ChannelPort {
             to,
@@ -143,8 +149,8 @@ impl<M: Drop> ChannelPort<M> {
         drop(to);
         ClosedPort {
             grave,
-            token: token_of(&here),
-            wake: token_of(&there),
+            token: take_token(&here),
+            wake: take_token(&there),
         }
     }
 }

@@ -1,5 +1,4 @@
 pub mod Closes
-pub mod Doing
 pub mod InOrder
 pub mod InPlace
 pub mod Lending

@@ -4,18 +4,19 @@ ghost use Rattle.std.specs.FinMap as map;
 ghost use Rattle.hub_clients.specs.Handing.{AreToldClosed};
 
 use crate::handed::Handed;
-use crate::hears::Hears;
 use hub_depot::Kept;
+use hub_locked::Hears;
 use hub_queue::Grave;
+use std::sync::Wait;
 
 /// Closes all queues that wait, and tells of each closed end.
-pub(crate) fn close_all<H: Hears<Grave>>(waiting: &mut Kept<Handed>, heard: &mut H)
+pub fn close_all<H: Hears<Grave>, R: Wait>(rt: &R, waiting: &mut Kept<Handed>, heard: &mut H)
     ensures all { waiting.new ≡ map.empty }
     ensures told { IfSome (H.told heard.old) (λ before.
         AreToldClosed waiting.old map.empty before (H.told heard.new)) }
 {
     while let Some(handed) = waiting.take_any() {
         let Handed { queue, to: _ } = handed;
-        heard.tell(queue.close());
+        heard.tell(rt, queue.close());
     }
 }

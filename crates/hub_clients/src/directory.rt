@@ -10,7 +10,6 @@ use crate::directory_error::DirectoryError;
 use crate::hand_error::HandError;
 use crate::handed::Handed;
 use crate::handed_queue::HandedQueue;
-use crate::hears::Unheard;
 use crate::keeping::{fetch_from, keep_on};
 use crate::lent::{give_back_in, line_in, open_in};
 use crate::listing::Listing;
@@ -19,9 +18,10 @@ use crate::queue_error::QueueError;
 use crate::worker_queue::WorkerQueue;
 use hub_depot::Depot;
 use hub_envelope::{AgentId, EndId};
+use hub_locked::{Locked, Unheard};
 use hub_queue::{Bell, Ends, Poster, Taker};
 use std::alloc::Global;
-use std::sync::{Mutex, Wait};
+use std::sync::Wait;
 
 /// Where agents find the queues of clients and workers, and where a queue waits that goes from one
 /// agent to another. Threads share it.
@@ -39,7 +39,7 @@ use std::sync::{Mutex, Wait};
 #[derive(Drop)]
 pub struct Directory {
     alloc: Global,
-    listing: Mutex<Listing>,
+    listing: Locked<Listing>,
     handed: Depot<Handed>,
 }
 
@@ -48,7 +48,7 @@ impl Directory {
     pub fn new(alloc: Global) -> Directory {
         Directory {
             alloc,
-            listing: Mutex::new(Listing::new(alloc)),
+            listing: Locked::new(Listing::new(alloc)),
             handed: Depot::new(alloc),
         }
     }
@@ -133,8 +133,8 @@ impl Directory {
     ) -> Result<(), (HandError, HandedQueue)>
         ensures { IfErr result (λ refused. refused.1 ≡ queue) }
     {
-        let mut shelf = &self.handed;
-        keep_on(rt, &mut shelf, queue, to)
+        let mut lender = self.handed.lock();
+        keep_on(rt, &mut lender, queue, to)
     }
 
     /// Takes out the queue of that number that was handed to that agent. `None` where none waits.
@@ -142,19 +142,19 @@ impl Directory {
     pub fn fetch<R: Wait>(&self, rt: &R, end: EndId, to: AgentId) -> Option<Handed>
         ensures { IfSome result (λ h. ((taker_of h.queue).end ≡ end.0) × (h.to ≡ to)) }
     {
-        let mut shelf = &self.handed;
-        fetch_from(rt, &mut shelf, end, to)
+        let mut lender = self.handed.lock();
+        fetch_from(rt, &mut lender, end, to)
     }
 
     /// Closes every queue that still waits for an agent. What is left of them is discarded: ports
     /// that are named there stay where they wait. It takes no memory.
-    pub fn end<R: Wait>(self, _rt: &R) {
+    pub fn end<R: Wait>(self, rt: &R) {
         let Directory {
             alloc: _,
             listing: _,
             handed,
         } = self;
         let mut waiting = handed.into_kept();
-        close_all(&mut waiting, &mut Unheard);
+        close_all(rt, &mut waiting, &mut Unheard);
     }
 }

@@ -2,23 +2,25 @@
 ghost use Rattle.std.specs.Prelude.{◌≡◌, ◌+◌, ◌<◌, ◌≤◌, ◌↔◌};
 ghost use Rattle.std.specs.Prelude.{IfOk, OnOk, IfErr, OnErr, IsErrOf};
 ghost use Rattle.hub_envelope.specs.declared.limits.TheConstants.{MAX_ENDS, MAX_LINES};
-ghost use Rattle.hub_clients.specs.Lending.{IsDoneIn};
+ghost use Rattle.hub_locked.specs.Lending.{IsDoneIn};
 ghost use Rattle.hub_clients.specs.Lines.{IsLent, IsGivenBack};
 ghost use Rattle.hub_clients.specs.Listings.{IsListed};
 ghost use Rattle.hub_clients.specs.NewQueues.{IsNewClientQueue, listed_of};
 
 use crate::directory_error::DirectoryError;
-use crate::lends::Lends;
 use crate::listed::Listed;
+use crate::listing::Listing;
 use crate::queue_error::QueueError;
 use hub_envelope::{EndId, MAX_LINES};
+use hub_locked::Lends;
 use hub_queue::{Bell, Ends, Mailbox, Poster, Taker};
 use std::alloc::Global;
 use std::sync::Wait;
 
 /// A queue of the next number, which is listed with all its lines at home. All that can be refused
 /// but the place in the listing is made before that is asked for, and the number is used up last.
-pub(crate) fn open_in<L: Lends, R: Wait>(
+/// After an error nothing more is listed.
+pub fn open_in<L: Lends<Listing>, R: Wait>(
     rt: &R,
     alloc: Global,
     lender: &mut L,
@@ -45,7 +47,7 @@ pub(crate) fn open_in<L: Lends, R: Wait>(
 }
 
 /// Lends a line to an end: `Listing::line_to`.
-pub(crate) fn line_in<L: Lends, R: Wait>(
+pub fn line_in<L: Lends<Listing>, R: Wait>(
     rt: &R,
     lender: &mut L,
     end: EndId,
@@ -58,7 +60,7 @@ pub(crate) fn line_in<L: Lends, R: Wait>(
 }
 
 /// Takes a line back: `Listing::give_back`.
-pub(crate) fn give_back_in<L: Lends, R: Wait>(
+pub fn give_back_in<L: Lends<Listing>, R: Wait>(
     rt: &R,
     lender: &mut L,
     poster: Poster,

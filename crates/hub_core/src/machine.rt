@@ -17,7 +17,8 @@
 //! may be adopted or closed while the poster is inside, whose Push may still be accepted. So a
 //! Look, a Sweep, and a Take at a retired queue with nothing left are `Busy` while it is there.
 
-ghost use Rattle.std.specs.Prelude.{◌≡◌, [], true, option_map, slice_get, Some, IfOk, OnErr, MatchResult};
+ghost use Rattle.std.specs.Prelude.{◌≡◌, [], true, option_map, slice_get, Some};
+ghost use Rattle.std.specs.Prelude.{IfOk, OnErr, MatchResult};
 ghost use Rattle.hub_core.specs.Posting.{holder, poster, poster_of, is_here, hears_notice};
 ghost use Rattle.hub_core.specs.Posting.{may_enter, may_post, listing, owner_by, running, speaker};
 ghost use Rattle.hub_core.specs.Facts.{facts};

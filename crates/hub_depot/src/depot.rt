@@ -5,8 +5,9 @@ use crate::depot_error::DepotError;
 use crate::kept::Kept;
 use crate::key::Key;
 use crate::named::Named;
+use hub_locked::Locked;
 use std::alloc::Global;
-use std::sync::{Mutex, Wait};
+use std::sync::Wait;
 
 /// Values under their names, which threads share.
 ///
@@ -21,21 +22,21 @@ use std::sync::{Mutex, Wait};
 /// ```
 #[derive(Drop)]
 pub struct Depot<V: Named> {
-    kept: Mutex<Kept<V>>,
+    kept: Locked<Kept<V>>,
 }
 
 impl<V: Named> Depot<V> {
     /// Nothing is kept. It takes no memory.
     pub fn new(alloc: Global) -> Depot<V> {
         Depot {
-            kept: Mutex::new(Kept::new(alloc)),
+            kept: Locked::new(Kept::new(alloc)),
         }
     }
 
     /// The map that `into_kept` gave, behind a lock again. It takes no memory.
     pub fn holding(kept: Kept<V>) -> Depot<V> {
         Depot {
-            kept: Mutex::new(kept),
+            kept: Locked::new(kept),
         }
     }
 
@@ -61,6 +62,11 @@ impl<V: Named> Depot<V> {
     /// It takes no memory.
     pub fn take_any(&self, rt: &impl Wait) -> Option<V> {
         self.kept.lock(rt).take_any()
+    }
+
+    /// The map behind its lock, for code that is generic over who lends it.
+    pub fn lock(&self) -> &Locked<Kept<V>> {
+        &self.kept
     }
 
     /// What is kept, once no thread shares the depot.

@@ -2,23 +2,21 @@
 //!
 //! A value that has left one place of the hub and has not yet reached the next waits in a depot
 //! under the name that it bears: the number of an end, of a queue of that end and of a line. `Kept`
-//! is the map itself, and `Depot` the same calls on a map that threads share. A `Shelf` is either.
+//! is the map itself, and `Depot` the same calls on a map that threads share.
 #![tactic(auto)]
 
 mod depot;
 mod depot_error;
 mod kept;
 mod key;
-mod laws;
+mod lent;
 mod named;
 mod putting;
-mod shelf;
 
 pub use depot::Depot;
 pub use depot_error::DepotError;
 pub use kept::Kept;
 pub use key::Key;
-pub use laws::shelf_laws;
+pub use lent::{put_in, take_in};
 pub use named::Named;
 pub use putting::put_all;
-pub use shelf::Shelf;

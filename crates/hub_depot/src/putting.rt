@@ -1,4 +1,4 @@
-//! Many values on a shelf, or none.
+//! Many values in a map that is lent, or none.
 ghost use Rattle.std.specs.Prelude.{◌≡◌, ◌≢◌, [], ◌∷◌, ◌++◌, All, AllPairs, Contains, IsSome};
 ghost use Rattle.std.specs.Prelude.{IsNone, IfSome, OnOk, OnErr, IfErr, IsErrOf};
 ghost use Rattle.std.specs.FinMap as map;
@@ -7,34 +7,36 @@ ghost use Rattle.hub_depot.specs.DepotError.{refused_value};
 ghost use Rattle.hub_depot.specs.Putting.{with_all, without_all, IsTakenAmong};
 
 use crate::depot_error::DepotError;
+use crate::kept::Kept;
 use crate::key::Key;
+use crate::lent::{put_in, take_in};
 use crate::named::Named;
-use crate::shelf::Shelf;
+use hub_locked::Lends;
 use std::alloc::Global;
 use std::sync::Wait;
 
 // Puts one more value, and its name behind those of the values before, or does neither.
-fn put_next<V: Named, S: Shelf<V>, R: Wait>(
+fn put_next<V: Named + Drop, L: Lends<Kept<V>>, R: Wait>(
     rt: &R,
-    shelf: &mut S,
+    lender: &mut L,
     names: &mut Vec<Key>,
     value: V,
 ) -> Result<(), DepotError<V>>
     ensures names { OnOk result (names.new.items ≡ names.old.items ++ V.name value ∷ []) }
-    ensures ok { OnOk result (S.shown shelf.new
-        ≡ option_map (λ kept. map.insert kept (V.name value) value) (S.shown shelf.old)) }
-    ensures free { OnOk result (IfSome (S.shown shelf.old) (λ kept.
+    ensures ok { OnOk result (L.shown lender.new
+        ≡ option_map (λ kept. map.insert kept (V.name value) value) (L.shown lender.old)) }
+    ensures free { OnOk result (IfSome (L.shown lender.old) (λ kept.
         IsNone (map.get kept (V.name value)))) }
-    ensures taken { IfSome (S.shown shelf.old) (λ kept.
+    ensures taken { IfSome (L.shown lender.old) (λ kept.
         IsErrOf result (DepotError.Taken value) → IsSome (map.get kept (V.name value))) }
     ensures given_back { IfErr result (λ e. refused_value e ≡ value) }
-    ensures err { OnErr result (S.shown shelf.new ≡ S.shown shelf.old) }
+    ensures err { OnErr result (L.shown lender.new ≡ L.shown lender.old) }
     ensures no_name { OnErr result (names.new.items ≡ names.old.items) }
 {
     if names.push(value.name()).is_err() {
         return Err(DepotError::OutOfMemory(value));
     }
-    let put = shelf.put(rt, value);
+    let put = put_in(rt, lender, value);
     if put.is_err() {
         names.pop();
     }
@@ -42,45 +44,49 @@ fn put_next<V: Named, S: Shelf<V>, R: Wait>(
 }
 
 // Takes back the values of these names, the last one first.
-fn take_back<V: Named + Drop, S: Shelf<V>, R: Wait>(rt: &R, shelf: &mut S, mut names: Vec<Key>)
-    ensures { S.shown shelf.new
-        ≡ option_map (λ kept. without_all kept names.items) (S.shown shelf.old) }
+fn take_back<V: Named + Drop, L: Lends<Kept<V>>, R: Wait>(
+    rt: &R,
+    lender: &mut L,
+    mut names: Vec<Key>,
+)
+    ensures { L.shown lender.new
+        ≡ option_map (λ kept. without_all kept names.items) (L.shown lender.old) }
 {
     while let Some(name) = names.pop() {
-        shelf.take(rt, name);
+        take_in(rt, lender, name);
     }
 }
 
-/// Puts all values on a shelf, or none.
+/// Puts all values into a map, or none.
 ///
 /// After an error the refused value comes back. Those that were put before it were taken back, and
-/// are dropped with those behind it. From a shared shelf another thread may have taken one of them
-/// in the meantime, or put one of that name in its place.
+/// are dropped with those behind it. From a map that threads share another thread may have taken
+/// one of them in the meantime, or put one of that name in its place.
 ///
 /// It needs memory for the names, so `OutOfMemory` may come where a value of that name is kept.
-pub fn put_all<V: Named + Drop, S: Shelf<V>, R: Wait>(
+pub fn put_all<V: Named + Drop, L: Lends<Kept<V>>, R: Wait>(
     rt: &R,
-    shelf: &mut S,
+    lender: &mut L,
     alloc: Global,
     values: Vec<V>,
 ) -> Result<(), DepotError<V>>
-    ensures ok { OnOk result (S.shown shelf.new
-        ≡ option_map (λ kept. with_all V.name kept values.items) (S.shown shelf.old)) }
-    ensures free { OnOk result (IfSome (S.shown shelf.old) (λ kept.
+    ensures ok { OnOk result (L.shown lender.new
+        ≡ option_map (λ kept. with_all V.name kept values.items) (L.shown lender.old)) }
+    ensures free { OnOk result (IfSome (L.shown lender.old) (λ kept.
         All (λ v. IsNone (map.get kept (V.name v))) values.items)) }
-    ensures distinct { OnOk result (IsSome (S.shown shelf.old)
+    ensures distinct { OnOk result (IsSome (L.shown lender.old)
         → AllPairs (λ first second. V.name first ≢ V.name second) values.items) }
 
     // An error says that a name was taken only where it was kept, or an earlier value has it.
     ensures taken { (v : V) → IsErrOf result (DepotError.Taken v)
-        → IfSome (S.shown shelf.old) (λ kept. IsTakenAmong V.name kept values.items v) }
+        → IfSome (L.shown lender.old) (λ kept. IsTakenAmong V.name kept values.items v) }
     ensures given_back { IfErr result (λ e. Contains values.items (refused_value e)) }
-    ensures err { OnErr result (S.shown shelf.new ≡ S.shown shelf.old) }
+    ensures err { OnErr result (L.shown lender.new ≡ L.shown lender.old) }
 {
     let mut names = Vec::new(alloc);
     for value in values {
-        if let Err(refused) = put_next(rt, shelf, &mut names, value) {
-            take_back(rt, shelf, names);
+        if let Err(refused) = put_next(rt, lender, &mut names, value) {
+            take_back(rt, lender, names);
             return Err(refused);
         }
     }

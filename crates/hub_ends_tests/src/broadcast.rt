@@ -1,3 +1,4 @@
+mod lent;
 mod memory;
 mod numbers;
 mod parts;

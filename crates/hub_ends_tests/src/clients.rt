@@ -1,4 +1,5 @@
 mod handing;
+mod lent;
 mod lines;
 mod memory;
 mod parts;

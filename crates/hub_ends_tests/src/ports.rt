@@ -1,3 +1,4 @@
+mod lent;
 mod memory;
 mod parts;
 mod rows;

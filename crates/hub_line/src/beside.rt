@@ -1,5 +1,5 @@
 //! What is known where both ends of a line are at hand.
-ghost use Rattle.std.specs.Prelude.{◌≡◌, ◌≢◌, ◌++◌, [], List, length, IfSome};
+ghost use Rattle.std.specs.Prelude.{◌≡◌, ◌≢◌, ◌++◌, [], List, length, IfSome, None};
 ghost use Rattle.rtrb.specs.Ring.{sent, received, IsPair, SameProducer, SameConsumer};
 ghost use Rattle.hub_line.specs.Rings.{given, known};
 ghost use Rattle.hub_line.specs.Tracks.{in_use, posted_of, Stands};
@@ -26,7 +26,8 @@ fn waiting_here<T: Drop>(
     requires stands { Stands feed.old rail.now }
     ensures at { IsAt source.new (received tracks.now) × (given source.new ≡ given source.old) }
     ensures stands { Stands feed.new rail.now × (in_use feed.new ≡ in_use feed.old) }
-    ensures waits { (given source.new ++ known source.new ≡ in_use feed.new) × (result ≡ length (known source.new)) }
+    ensures waits { (given source.new ++ known source.new ≡ in_use feed.new)
+        × (result ≡ length (known source.new)) }
 {
     let Some(used) = feed else {
         unreachable!();
@@ -48,9 +49,13 @@ fn waiting_in<T: Drop>(
     ensures reached { HasReached source.new ahead.new (received tracks.new) }
     ensures stands { Stands feed.new rail.new }
     ensures line { SameConsumer tracks.old tracks.new × SameProducer rail.old rail.new }
-    ensures taken { taken_of source.new ahead.new (received tracks.new) ≡ taken_of source.old ahead.old (received tracks.old) }
+    ensures taken { taken_of source.new ahead.new (received tracks.new)
+        ≡ taken_of source.old ahead.old (received tracks.old) }
     ensures posted { posted_of feed.new rail.new ≡ posted_of feed.old rail.old }
-    ensures waits { (left : List T) × (taken_of source.new ahead.new (received tracks.new) ++ left ≡ posted_of feed.new rail.new) × IfSome result (λ n. n ≡ length left) }
+    ensures waits { (left : List T)
+        × (taken_of source.new ahead.new (received tracks.new) ++ left
+        ≡ posted_of feed.new rail.new) × IfSome result (λ n. n ≡ length left) }
+    ensures none { result ≡ None → ahead.new ≡ Open → ⊥ }
 {
     tracks.slots_beside(rail);
     if let Ahead::Open = ahead {
@@ -65,16 +70,21 @@ fn waiting_in<T: Drop>(
 }
 
 impl<T: Drop> LineTaker<T> {
-    ghost use Rattle.std.specs.Prelude.{◌≡◌, ◌++◌, List, length, IfSome};
-    ghost use Rattle.hub_line.specs.Ends.{posted, taken, IsLine, SamePoster, SameTaker};
+    ghost use Rattle.std.specs.Prelude.{◌≡◌, ◌++◌, List, length, IfSome, None};
+    ghost use Rattle.hub_line.specs.Ends.{posted, taken, IsLine, KnowsItsRingOver, SamePoster};
+    ghost use Rattle.hub_line.specs.Ends.{SameTaker};
 
     /// How many items wait, for a thread that has both ends: what was taken, followed by what
-    /// waits, is what was posted. `None` where they wait in more than one ring.
+    /// waits, is what was posted. `None` where they may wait in more than one ring.
     pub fn waiting_beside(&mut self, poster: &mut LinePoster<T>) -> Option<usize>
         requires { IsLine poster.old self.old }
         ensures taker { SameTaker self.old self.new × (taken self.new ≡ taken self.old) }
-        ensures poster { SamePoster poster.old poster.new × (posted poster.new ≡ posted poster.old) }
-        ensures waits { (left : List T) × (taken self.new ++ left ≡ posted poster.new) × IfSome result (λ n. n ≡ length left) }
+        ensures poster { SamePoster poster.old poster.new
+            × (posted poster.new ≡ posted poster.old) }
+        ensures waits { (left : List T) × (taken self.new ++ left ≡ posted poster.new)
+            × IfSome result (λ n. n ≡ length left) }
+        ensures none { result ≡ None → KnowsItsRingOver self.new }
+        ensures others { (self.new.told ≡ self.old.told) × (self.new.empties ≡ self.old.empties) }
     {
         waiting_in(
             &mut self.source,

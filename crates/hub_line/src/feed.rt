@@ -31,7 +31,8 @@ impl<T: Drop> Feed<T> {
         capacity: usize,
     ) -> Result<(Feed<T>, Source<T>), OutOfMemory>
         ensures ring { IfOk result (λ ends. IsRing ends.0 ends.1) }
-        ensures new { IfOk result (λ ends. (fed ends.0 ≡ []) × (given ends.1 ≡ []) × (known ends.1 ≡ [])) }
+        ensures new { IfOk result (λ ends. (fed ends.0 ≡ []) × (given ends.1 ≡ [])
+            × (known ends.1 ≡ [])) }
         ensures room { IfOk result (λ ends. free ends.0 ≡ capacity) }
     {
         let (ring, items) = RingBuffer::with_protocol::<Global, Counted>(alloc, capacity)?;
@@ -44,6 +45,7 @@ impl<T: Drop> Feed<T> {
     }
 
     /// Whether the ring has no room for an item.
+    #[inline]
     pub(crate) fn is_full(&mut self) -> bool
         ensures same { SameFeed self.old self.new × (fed self.new ≡ fed self.old) }
         ensures room { IsFalse result → 0 < free self.new }
@@ -57,6 +59,7 @@ impl<T: Drop> Feed<T> {
     }
 
     /// Posts an item, for which there is room.
+    #[inline]
     pub(crate) fn push(&mut self, item: T)
         requires { 0 < free self.old }
         ensures same { SameFeed self.old self.new }

@@ -1,4 +1,6 @@
 //! What is left of a line's taker once it has closed the line.
+ghost use Rattle.hub_line.specs.Ends.{IsShut};
+
 use crate::taken::LineTaken;
 use crate::taker::LineTaker;
 
@@ -7,12 +9,14 @@ use crate::taker::LineTaker;
 #[derive(Drop)]
 pub struct LineGrave<T> {
     pub(crate) taker: LineTaker<T>,
+    ghost shut: { IsShut taker },
 }
 
 impl<T: Drop> LineGrave<T> {
     ghost use Rattle.std.specs.Prelude.{◌≡◌};
     ghost use Rattle.hub_line.specs.Taking.{Took};
-    ghost use Rattle.hub_line.specs.Ends.{taken, HasEnded, HasLooked, HasNoneLeft, IsInOrder, SameTaker};
+    ghost use Rattle.hub_line.specs.Ends.{empties_after, taken, HasEnded, HasNoneLeft, IsInOrder};
+    ghost use Rattle.hub_line.specs.Ends.{SameTaker};
     ghost use Rattle.hub_line.specs.declared.taken.LineTaken.TheVariants.{Empty, Ended};
 
     /// Hands back the next item. `Empty` says that the poster has made no call since the line was
@@ -20,7 +24,8 @@ impl<T: Drop> LineGrave<T> {
     pub fn drain(&mut self) -> LineTaken<T>
         ensures line { SameTaker self.old.taker self.new.taker }
         ensures took { Took (taken self.old.taker) result (taken self.new.taker) }
-        ensures empty { result ≡ Empty → HasNoneLeft self.new.taker × HasLooked self.old.taker self.new.taker }
+        ensures empty { result ≡ Empty → HasNoneLeft self.new.taker }
+        ensures empties { self.new.taker.empties ≡ empties_after result self.old.taker.empties }
         ensures ended { result ≡ Ended → HasEnded self.new.taker }
         ensures order { IsInOrder self.new.taker }
     {

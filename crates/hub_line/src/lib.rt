@@ -1,4 +1,4 @@
-//! A line: what one poster sends to one taker, in order and with no bound, with no lock and no wait.
+//! A line: what one poster sends to one taker, in order and with no bound, no lock and no wait.
 //!
 //! The items lie in a ring. When it is full the poster makes a larger one and goes on there; both
 //! ends of what was left behind go to the taker over a second ring, the rail. So the taker leaves a

@@ -1,5 +1,6 @@
 //! The end of a line that posts.
-ghost use Rattle.std.specs.Prelude.{◌≡◌, ◌<◌, ◌≤◌, true, false, [], ◌∷◌, ◌++◌, ◌↔◌, is_some, IsTrue, IsFalse, OnOk, IfErr};
+ghost use Rattle.std.specs.Prelude.{◌≡◌, ◌<◌, ◌≤◌, true, false, [], ◌∷◌, ◌++◌, ◌↔◌, is_some};
+ghost use Rattle.std.specs.Prelude.{IsTrue, IsFalse, OnOk, IfErr};
 ghost use Rattle.rtrb.specs.Ring.{sent, known_free, SameProducer};
 ghost use Rattle.hub_line.specs.Rings.{fed, free};
 ghost use Rattle.hub_line.specs.Tracks.{goes_on, settled, posted_of, IsLinked, Stands};
@@ -50,6 +51,7 @@ pub struct LinePoster<T> {
 }
 
 // Goes on in a ring of another capacity, if there is room and memory.
+#[cold]
 fn go_on<T: Drop>(
     alloc: Global,
     capacity: usize,
@@ -63,7 +65,8 @@ fn go_on<T: Drop>(
     ensures linked { IsLinked feed.new (sent rail.new) }
     ensures room { 0 < known_free rail.new }
     ensures rail { SameProducer rail.old rail.new }
-    ensures same { settled (sent rail.new) ++ fed feed.new ≡ settled (sent rail.old) ++ fed feed.old }
+    ensures same { settled (sent rail.new) ++ fed feed.new
+        ≡ settled (sent rail.old) ++ fed feed.old }
     ensures free { IsTrue result → free feed.new ≡ capacity }
 {
     if rail.slots() < 2 {
@@ -82,6 +85,7 @@ fn go_on<T: Drop>(
 }
 
 // Makes room for one item, in a larger ring if need be.
+#[inline]
 fn make_room<T: Drop>(
     alloc: Global,
     feed: &mut Feed<T>,
@@ -94,7 +98,8 @@ fn make_room<T: Drop>(
     ensures linked { IsLinked feed.new (sent rail.new) }
     ensures room { 0 < known_free rail.new }
     ensures rail { SameProducer rail.old rail.new }
-    ensures same { settled (sent rail.new) ++ fed feed.new ≡ settled (sent rail.old) ++ fed feed.old }
+    ensures same { settled (sent rail.new) ++ fed feed.new
+        ≡ settled (sent rail.old) ++ fed feed.old }
     ensures free { IsTrue result → 0 < free feed.new }
 {
     if !feed.is_full() {
@@ -122,6 +127,7 @@ fn end<T: Drop>(feed: &mut Option<Feed<T>>, rail: &mut Producer<Track<T>, Global
 }
 
 // Does what a notice of the taker asks for, and answers whether it is done.
+#[cold]
 fn heed<T: Drop>(
     alloc: Global,
     notice: u64,
@@ -145,6 +151,7 @@ fn heed<T: Drop>(
 }
 
 // Posts an item, if the line isn't over.
+#[inline(always)]
 fn post_in<T: Drop>(
     alloc: Global,
     feed: &mut Option<Feed<T>>,
@@ -154,8 +161,10 @@ fn post_in<T: Drop>(
     requires { Stands feed.old rail.old }
     ensures stands { Stands feed.new rail.new }
     ensures rail { SameProducer rail.old rail.new }
-    ensures posted { OnOk result (posted_of feed.new rail.new ≡ posted_of feed.old rail.old ++ item ∷ []) }
-    ensures refused { IfErr result (λ e. (e.1 ≡ item) × (posted_of feed.new rail.new ≡ posted_of feed.old rail.old)) }
+    ensures posted { OnOk result (posted_of feed.new rail.new
+        ≡ posted_of feed.old rail.old ++ item ∷ []) }
+    ensures refused { IfErr result (λ e. (e.1 ≡ item)
+        × (posted_of feed.new rail.new ≡ posted_of feed.old rail.old)) }
     ensures closed { IfErr result (λ e. (e.0 ≡ Closed) ↔ (goes_on (sent rail.old) ≡ false)) }
     ensures open { goes_on (sent rail.new) ≡ goes_on (sent rail.old) }
 {
@@ -175,6 +184,7 @@ impl<T: Drop> LinePoster<T> {
     ghost use Rattle.hub_line.specs.declared.poster.NotPosted.TheVariants.{Closed};
 
     // Does what the taker has asked for since the last call.
+    #[inline(always)]
     fn listen(&mut self)
         ensures line { SamePoster self.old self.new }
         ensures same { posted self.new ≡ posted self.old }
@@ -187,6 +197,7 @@ impl<T: Drop> LinePoster<T> {
     }
 
     /// Posts an item. After an error nothing was posted, and the item comes back.
+    #[inline(always)]
     pub fn post(&mut self, item: T) -> Result<(), (NotPosted, T)>
         ensures line { SamePoster self.old self.new }
         ensures posted { OnOk result (posted self.new ≡ posted self.old ++ item ∷ []) }
@@ -204,6 +215,7 @@ impl<T: Drop> LinePoster<T> {
         ensures same { posted self.new ≡ posted self.old }
         ensures over { IsTrue result ↔ IsOver self.new }
         ensures stays { IsOver self.old → IsOver self.new }
+        ensures heeded { self.new.heeded ≡ self.old.heeded }
     {
         if self.notices.load(Ordering::SeqCst) == CLOSED {
             end(&mut self.feed, &mut self.rail);

@@ -21,6 +21,7 @@ impl<T: Drop> Source<T> {
     ghost use Rattle.hub_line.specs.Rings.{fed, given, known, IsRing, SameSource, SameFeed};
 
     /// Whether no item is there.
+    #[inline]
     pub(crate) fn is_empty(&mut self) -> bool
         ensures same { SameSource self.old self.new × (given self.new ≡ given self.old) }
         ensures none { IsTrue result → known self.new ≡ [] }
@@ -30,6 +31,7 @@ impl<T: Drop> Source<T> {
     }
 
     /// Takes the next item, of which it is known that it is there.
+    #[inline]
     pub(crate) fn pop_known(&mut self) -> T
         requires { 0 < length (known self.old) }
         ensures same { SameSource self.old self.new }

@@ -3,7 +3,8 @@ ghost use Rattle.std.specs.Prelude.{◌≡◌, [], ◌++◌, IsTrue, IsFalse};
 ghost use Rattle.rtrb.specs.Ring.{received, known_items, SameConsumer};
 ghost use Rattle.hub_line.specs.Rings.{given, known};
 ghost use Rattle.hub_line.specs.Tracks.{settled};
-ghost use Rattle.hub_line.specs.Reach.{HasReached, HasReached-prop, HasTakenAll, IsAt, KnowsOfNone, taken_of};
+ghost use Rattle.hub_line.specs.Reach.{HasReached, HasReached-prop, HasTakenAll, IsAt, KnowsOfNone};
+ghost use Rattle.hub_line.specs.Reach.{taken_of};
 ghost use Rattle.hub_line.specs.Taking.{Took};
 ghost use Rattle.hub_line.specs.declared.taken.LineTaken.TheVariants.{Empty, Ended};
 ghost use Rattle.hub_line.specs.declared.track.Ahead.TheVariants.{Open, Next};
@@ -33,15 +34,18 @@ pub struct LineTaker<T> {
 }
 
 // What is heard of how the line goes on.
+#[cold]
 pub(crate) fn next_ahead<T: Drop>(
     source: &mut Source<T>,
     rail: &mut Consumer<Track<T>, Global, Chained>,
 ) -> Ahead<T>
     requires { IsAt source.old (received rail.old) }
     ensures reached { HasReached source.new result (received rail.new) }
-    ensures open { result ≡ Open → (source.new ≡ source.old) × (received rail.new ≡ received rail.old) × (known_items rail.old ≡ []) }
+    ensures open { result ≡ Open → (source.new ≡ source.old)
+        × (received rail.new ≡ received rail.old) × (known_items rail.old ≡ []) }
     ensures rail { SameConsumer rail.old rail.new }
-    ensures same { taken_of source.new result (received rail.new) ≡ settled (received rail.old) ++ given source.old }
+    ensures same { taken_of source.new result (received rail.new)
+        ≡ settled (received rail.old) ++ given source.old }
 {
     let Ok(track) = rail.pop() else {
         return Ahead::Open;
@@ -60,6 +64,7 @@ pub(crate) fn next_ahead<T: Drop>(
 }
 
 // Leaves a ring of which all was taken for the next one.
+#[cold]
 fn hop<T: Drop>(
     source: &mut Source<T>,
     next: Box<Source<T>>,
@@ -68,12 +73,14 @@ fn hop<T: Drop>(
     requires reached { HasReached source.old (Next next) (received rail.now) }
     requires none { known source.old ≡ [] }
     ensures at { IsAt source.new (received rail.now) }
-    ensures same { taken_of source.new Open (received rail.now) ≡ taken_of source.old (Next next) (received rail.now) }
+    ensures same { taken_of source.new Open (received rail.now)
+        ≡ taken_of source.old (Next next) (received rail.now) }
 {
     *source = Box::into_inner(next);
 }
 
 // Whether something can be taken: an item of the ring, or the end.
+#[inline]
 fn reach<T: Drop>(
     source: &mut Source<T>,
     rail: &mut Consumer<Track<T>, Global, Chained>,
@@ -82,9 +89,11 @@ fn reach<T: Drop>(
     requires { HasReached source.old ahead.old (received rail.old) }
     ensures reached { HasReached source.new ahead.new (received rail.new) }
     ensures rail { SameConsumer rail.old rail.new }
-    ensures same { taken_of source.new ahead.new (received rail.new) ≡ taken_of source.old ahead.old (received rail.old) }
+    ensures same { taken_of source.new ahead.new (received rail.new)
+        ≡ taken_of source.old ahead.old (received rail.old) }
     ensures none { IsFalse result → KnowsOfNone source.new ahead.new }
-    ensures ended { IsTrue result → known source.new ≡ [] → HasTakenAll source.new ahead.new (received rail.new) }
+    ensures ended { IsTrue result → known source.new ≡ [] →
+        HasTakenAll source.new ahead.new (received rail.new) }
 {
     if let Ahead::Open = ahead {
         if !source.is_empty() {
@@ -109,6 +118,7 @@ fn reach<T: Drop>(
 }
 
 // Takes the next item, wherever the line has it.
+#[inline(always)]
 fn take_in<T: Drop>(
     source: &mut Source<T>,
     rail: &mut Consumer<Track<T>, Global, Chained>,
@@ -117,7 +127,8 @@ fn take_in<T: Drop>(
     requires { HasReached source.old ahead.old (received rail.old) }
     ensures reached { HasReached source.new ahead.new (received rail.new) }
     ensures rail { SameConsumer rail.old rail.new }
-    ensures took { Took (taken_of source.old ahead.old (received rail.old)) result (taken_of source.new ahead.new (received rail.new)) }
+    ensures took { Took (taken_of source.old ahead.old (received rail.old)) result
+        (taken_of source.new ahead.new (received rail.new)) }
     ensures empty { result ≡ Empty → KnowsOfNone source.new ahead.new }
     ensures ended { result ≡ Ended → HasTakenAll source.new ahead.new (received rail.new) }
 {
@@ -131,18 +142,22 @@ fn take_in<T: Drop>(
 }
 
 impl<T: Drop> LineTaker<T> {
-    ghost use Rattle.std.specs.Prelude.{◌≡◌, IsFalse};
+    ghost use Rattle.std.specs.Prelude.{◌≡◌, IsTrue, IsFalse};
     ghost use Rattle.hub_line.specs.Taking.{Took};
-    ghost use Rattle.hub_line.specs.Ends.{taken, HasEnded, HasLooked, HasNoneLeft, IsInOrder, SameTaker};
+    ghost use Rattle.hub_line.specs.Ends.{empties_after, taken, HasEnded, HasLooked, HasNoneLeft};
+    ghost use Rattle.hub_line.specs.Ends.{HasSome, IsInOrder, IsShut, SameTaker};
     ghost use Rattle.hub_line.specs.declared.taken.LineTaken.TheVariants.{Empty, Ended};
 
     /// Takes the next item.
+    #[inline(always)]
     pub fn take(&mut self) -> LineTaken<T>
         ensures line { SameTaker self.old self.new }
         ensures took { Took (taken self.old) result (taken self.new) }
-        ensures empty { result ≡ Empty → HasNoneLeft self.new × HasLooked self.old self.new }
+        ensures empty { result ≡ Empty → HasNoneLeft self.new }
+        ensures empties { self.new.empties ≡ empties_after result self.old.empties }
         ensures ended { result ≡ Ended → HasEnded self.new }
         ensures order { IsInOrder self.new }
+        ensures shut { IsShut self.old → IsShut self.new }
     {
         let taken = self.take_untold();
         if matches!(taken, LineTaken::Empty) {
@@ -155,7 +170,9 @@ impl<T: Drop> LineTaker<T> {
     pub fn has_some(&mut self) -> bool
         ensures line { SameTaker self.old self.new }
         ensures same { taken self.new ≡ taken self.old }
+        ensures some { IsTrue result → HasSome self.new × (self.new.empties ≡ self.old.empties) }
         ensures empty { IsFalse result → HasNoneLeft self.new × HasLooked self.old self.new }
+        ensures told { self.new.told ≡ self.old.told }
     {
         let some = reach(&mut self.source, &mut self.rail, &mut self.ahead);
         if !some {
@@ -165,12 +182,15 @@ impl<T: Drop> LineTaker<T> {
     }
 
     // Takes the next item, and tells the poster nothing.
+    #[inline(always)]
     pub(crate) fn take_untold(&mut self) -> LineTaken<T>
         ensures line { SameTaker self.old self.new }
         ensures took { Took (taken self.old) result (taken self.new) }
-        ensures empty { result ≡ Empty → HasNoneLeft self.new × HasLooked self.old self.new }
+        ensures empty { result ≡ Empty → HasNoneLeft self.new }
+        ensures empties { self.new.empties ≡ empties_after result self.old.empties }
         ensures ended { result ≡ Ended → HasEnded self.new }
         ensures order { IsInOrder self.new }
+        ensures told { self.new.told ≡ self.old.told }
     {
         let taken = take_in(&mut self.source, &mut self.rail, &mut self.ahead);
         if matches!(taken, LineTaken::Empty) {
@@ -180,12 +200,14 @@ impl<T: Drop> LineTaker<T> {
     }
 
     // Tells the poster, once a ring, that a large ring was found empty.
+    #[inline]
     fn tell(&mut self)
-        ensures { (self.new.source ≡ self.old.source) × (self.new.rail ≡ self.old.rail)
+        ensures same { (self.new.source ≡ self.old.source) × (self.new.rail ≡ self.old.rail)
             × (self.new.ahead ≡ self.old.ahead) × (self.new.empties ≡ self.old.empties) }
+        ensures shut { IsShut self.old → IsShut self.new }
     {
         let place = self.source.place;
-        if self.source.capacity() > KEPT && self.told != place {
+        if self.source.capacity() > KEPT && self.told != place && self.told != CLOSED {
             self.told = place;
             self.notices.store(place, Ordering::SeqCst);
         }
@@ -194,15 +216,26 @@ impl<T: Drop> LineTaker<T> {
 
 impl<T: Drop> LineTaker<T> {
     ghost use Rattle.std.specs.Prelude.{◌≡◌};
-    ghost use Rattle.hub_line.specs.Ends.{taken, SameTaker};
+    ghost use Rattle.hub_line.specs.Ends.{taken, IsShut, SameTaker};
 
     /// Closes the line: the poster's next call finds that, and sends what it has posted and the
     /// end. What comes until then is handed back by the grave.
     pub fn close(self) -> LineGrave<T>
         ensures { SameTaker self result.taker × (taken result.taker ≡ taken self) }
     {
+        let mut taker = self;
+        taker.shut();
+        LineGrave { taker }
+    }
+
+    /// Closes the line as `close` does, and leaves what comes until the end to `take`.
+    pub fn shut(&mut self)
+        ensures line { SameTaker self.old self.new × (taken self.new ≡ taken self.old) }
+        ensures shut { IsShut self.new }
+        ensures empties { self.new.empties ≡ self.old.empties }
+    {
+        self.told = CLOSED;
         self.notices.store(CLOSED, Ordering::SeqCst);
-        LineGrave { taker: self }
     }
 }
 

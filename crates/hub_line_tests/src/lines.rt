@@ -84,7 +84,8 @@ fn both_ends_know_what_waits(rt: HostRuntime) -> Result<(), Fail> {
     Ok(())
 }
 
-// What was posted at a closed line is handed back, up to the end, which the poster's next call sends.
+// What was posted at a closed line is handed back, up to the end, which the poster's next call
+// sends.
 #[test]
 fn a_closed_line_hands_back_what_was_posted(rt: HostRuntime) -> Result<(), Fail> {
     for posted in [0u64, 1, 16, 17, 300] {

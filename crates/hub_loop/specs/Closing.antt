@@ -1,7 +1,10 @@
 -- How an end that a loop holds is closed.
-use Rattle.std.specs.Prelude.{◌≡◌, Some, None}
+use Rattle.std.specs.Prelude.{◌≡◌, List, filter, not, Option, Some, None}
+use Rattle.std.specs.Option.{option_map}
 use Rattle.slab.specs.Slab.{Slab}
 use Rattle.hub_envelope.specs.declared.ids.EndId.{EndId}
+use Rattle.hub_broadcast.specs.Destinations.{is_of_end}
+use Rattle.hub_broadcast.specs.Members.{SubscriptionSeat}
 use Rattle.hub_ports.specs.Seats.{PortSeat}
 use Rattle.hub_queue.specs.Ending.{IsClosed}
 use Rattle.hub_queue.specs.Taking.{TakerSeat}
@@ -34,6 +37,14 @@ abbrev pub IsOpenClosed : OpenState → ClosedEnd → Type 0
 IsOpenClosed (open_held h) c = IsEndClosed h c
 IsOpenClosed (open_arrived p) c = IsPortClosed p c
 
--- The end of this number is held no more: it was closed.
-abbrev pub ClosesEnd : Slab Held → Slab Held → EndId → ClosedEnd → Type 0
-ClosesEnd old new end c = (held : Held) × (end_held held ≡ Some end) × HoldsMore new old held × IsEndClosed held c
+-- the roster that is shown once this was closed: a member has left it
+abbrev pub left_by : Held → Option (List SubscriptionSeat) → Option (List SubscriptionSeat)
+left_by (Member m) roster = option_map (filter (λ s. not (is_of_end (record { 0 = m.taker.end }) s))) roster
+left_by (Port p) roster = roster
+left_by (Client t) roster = roster
+left_by (Worker t) roster = roster
+left_by (Line s) roster = roster
+
+-- The end of this number is held no more: it was closed, and a member has left the roster, which was and is now shown so.
+abbrev pub ClosesEnd : Slab Held → Slab Held → Option (List SubscriptionSeat) → Option (List SubscriptionSeat) → EndId → ClosedEnd → Type 0
+ClosesEnd old new was now end c = (held : Held) × (end_held held ≡ Some end) × HoldsMore new old held × IsEndClosed held c × (now ≡ left_by held was)

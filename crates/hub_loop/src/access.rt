@@ -41,9 +41,10 @@ use crate::event_loop::EventLoop;
 use crate::handler::Handler;
 use crate::held::{Held, Kind};
 use crate::loop_error::LoopError;
-use hub_broadcast::{Member, SharedRoster};
+use hub_broadcast::{Member, Roster};
 use hub_clients::ClientQueue;
 use hub_envelope::{EndId, OutOfMemory};
+use hub_locked::Lends;
 use hub_ports::{Hub, Port};
 use hub_queue::Poster;
 use std::mem::replace;
@@ -201,17 +202,18 @@ impl<H: Handler + Drop, C: Checkpoint + Drop> EventLoop<H, C> {
     /// Closes the port, queue or member of this number, which the loop holds no more: a member
     /// leaves the roster first, and a port is closed with its notice. What waits there is for the
     /// caller to sweep. `None` where the loop doesn't hold it.
-    pub fn close<R: Wait>(
+    pub fn close<L: Lends<Roster>, R: Wait>(
         &mut self,
         rt: &R,
         hub: &Hub,
-        roster: &SharedRoster,
+        roster: &mut L,
         end: EndId,
     ) -> Option<ClosedEnd>
-        ensures closed { IfSome result (λ closed.
-            ClosesEnd self.old.holding.held self.new.holding.held end closed) }
+        ensures closed { IfSome result (λ closed. ClosesEnd self.old.holding.held
+            self.new.holding.held (L.shown roster.old) (L.shown roster.new) end closed) }
         ensures missing { IfNone result (HoldsNoEnd self.old.holding.held end) }
         ensures none { IfNone result (self.new ≡ self.old) }
+        ensures stays { IfNone result (L.shown roster.new ≡ L.shown roster.old) }
         ensures rest { self.new ≡ record self.old { holding = self.new.holding } }
         ensures same { (self.new.holding.next ≡ self.old.holding.next)
             × (self.new.holding.closed ≡ self.old.holding.closed) }

@@ -16,9 +16,10 @@ use crate::ending::{Closed, leave_all, take_found, take_held, take_queues};
 use crate::event_loop::EventLoop;
 use crate::handler::Handler;
 use crate::loop_error::LoopError;
-use hub_broadcast::SharedRoster;
+use hub_broadcast::Roster;
 use hub_clients::Directory;
 use hub_envelope::OutOfMemory;
+use hub_locked::Lends;
 use hub_ports::Hub;
 use std::mem::replace;
 use std::sync::Wait;
@@ -34,12 +35,12 @@ impl<H: Handler + Drop, C: Checkpoint + Drop> EventLoop<H, C> {
     /// ports that were named; and of each port that was closed, in the order of closing, the number
     /// and what became of its notice, those that a turn has closed first. A line that the directory
     /// refuses is dropped. After `OutOfMemory` the next `end` goes on.
-    pub fn end<R: Wait>(
+    pub fn end<L: Lends<Roster>, R: Wait>(
         mut self,
         rt: &R,
         hub: &Hub,
         directory: &Directory,
-        roster: &SharedRoster,
+        roster: &mut L,
     ) -> Result<Ended, (LoopError, EventLoop<H, C>)>
         ensures ok { IfOk result (λ ended.
             HasEnded self (swept_ends ended.swept.items) ended.noticed.items) }
@@ -77,11 +78,11 @@ impl<H: Handler + Drop, C: Checkpoint + Drop> EventLoop<H, C> {
 
     // Closes what the loop has, in rising order of the numbers, or takes up how far an earlier call
     // has come.
-    fn begin_closing<R: Wait>(
+    fn begin_closing<L: Lends<Roster>, R: Wait>(
         &mut self,
         rt: &R,
         hub: &Hub,
-        roster: &SharedRoster,
+        roster: &mut L,
     ) -> Result<Closing, OutOfMemory>
         ensures ok { IfOk result (λ closing.
             HasEnded self.old (closing_ends closing) closing.noticed) }

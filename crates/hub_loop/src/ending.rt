@@ -41,9 +41,10 @@ use crate::closed_end::ClosedEnd;
 use crate::closed_port::ClosedPort;
 use crate::delivery::Delivery;
 use crate::held::Held;
-use hub_broadcast::SharedRoster;
+use hub_broadcast::Roster;
 use hub_clients::HandedQueue;
 use hub_envelope::{EndId, OutOfMemory};
+use hub_locked::Lends;
 use hub_ports::{Arrived, Hub};
 use hub_queue::{Grave, Poster};
 use slab::Slab;
@@ -206,7 +207,7 @@ impl Closed {
 
 /// Takes the members among these out of the roster, before the first end is closed: nobody casts at
 /// a member of an agent whose queue is closed already.
-pub(crate) fn leave_all<R: Wait>(rt: &R, roster: &SharedRoster, all: &[Open]) {
+pub(crate) fn leave_all<L: Lends<Roster>, R: Wait>(rt: &R, roster: &mut L, all: &[Open]) {
     for opened in all {
         if let Opened::Held(held) = &opened.end {
             held.leave(rt, roster);

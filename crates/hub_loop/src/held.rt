@@ -4,7 +4,7 @@ ghost use Rattle.hub_ports.specs.Seats.{PortSeat};
 ghost use Rattle.hub_queue.specs.Standing.{StandSeat};
 ghost use Rattle.hub_queue.specs.Taking.{TakerSeat};
 ghost use Rattle.hub_loop.specs.Asking.{IsHeldAsked, IsHeldTaken};
-ghost use Rattle.hub_loop.specs.Closing.{IsEndClosed};
+ghost use Rattle.hub_loop.specs.Closing.{IsEndClosed, left_by};
 ghost use Rattle.hub_loop.specs.Holding.{behind_of, end_held, number_of, seat_of};
 ghost use Rattle.hub_loop.specs.Looking.{is_a};
 ghost use Rattle.hub_loop.specs.Starting.{started_held};
@@ -17,9 +17,10 @@ ghost use Rattle.hub_loop.specs.declared.held.Held.TheVariants.{
 
 use crate::closed_end::ClosedEnd;
 use crate::closed_port::ClosedPort;
-use hub_broadcast::{Member, SharedRoster};
+use hub_broadcast::{Member, Roster, leave_in};
 use hub_clients::{ClientQueue, WorkerQueue};
 use hub_envelope::EndId;
+use hub_locked::Lends;
 use hub_ports::{Hub, Port};
 use hub_queue::{Poster, Steps, Took};
 use std::sync::Wait;
@@ -178,14 +179,16 @@ impl Held {
     }
     /// Takes a member out of the roster: nobody casts there from then on. Any other end, and a
     /// line, is as it was.
-    pub(crate) fn leave<R: Wait>(&self, rt: &R, roster: &SharedRoster) {
+    pub(crate) fn leave<L: Lends<Roster>, R: Wait>(&self, rt: &R, roster: &mut L)
+        ensures { L.shown roster.new ≡ left_by self.now (L.shown roster.old) }
+    {
         if let Held::Member(member) = self {
-            roster.leave(rt, member.end());
+            leave_in(rt, roster, member.end());
         }
     }
 
     /// Closes an end that is no member of the roster any more, a port with its notice.
-    pub(crate) fn shut<R: Wait>(self, rt: &R, hub: &Hub) -> Result<ClosedEnd, Poster>
+    pub fn shut<R: Wait>(self, rt: &R, hub: &Hub) -> Result<ClosedEnd, Poster>
         ensures ok { IfOk result (IsEndClosed self) }
         ensures err { IfErr result (λ line. self ≡ LineHeld line) }
     {
@@ -200,14 +203,15 @@ impl Held {
 
     /// Closes the end: a member leaves the roster first, and a port is closed with its notice. It
     /// takes no memory but that of the notice. A line is no end: it comes back.
-    pub fn close<R: Wait>(
+    pub fn close<L: Lends<Roster>, R: Wait>(
         self,
         rt: &R,
         hub: &Hub,
-        roster: &SharedRoster,
+        roster: &mut L,
     ) -> Result<ClosedEnd, Poster>
         ensures ok { IfOk result (IsEndClosed self) }
         ensures err { IfErr result (λ line. self ≡ LineHeld line) }
+        ensures left { L.shown roster.new ≡ left_by self (L.shown roster.old) }
     {
         self.leave(rt, roster);
         self.shut(rt, hub)

@@ -1,9 +1,9 @@
 //! A client's queue is handed on while a post over one of its lines is held up.
-use crate::parts::{Loop, Name, Shared, delivers, holds, is_idle, open};
+use crate::parts::{Name, Shared, delivers, holds, is_idle, open};
 use hub_envelope::{AgentId, EndId};
 use hub_loop::Held;
 use hub_queue::{Ends, Pause, Point, Poster};
-use hub_test_parts::{bell, post, post_with};
+use hub_test_parts::{Loop, bell, post, post_with};
 use std::alloc::Global;
 use std::sync::{Mutex, Wait};
 

@@ -1,11 +1,11 @@
 //! A line to another end is held beside a port of the same number.
 use crate::left::is_left;
-use crate::parts::{Loop, Shared, holds, is_idle, open};
+use crate::parts::{Shared, holds, is_idle, open};
 use hub_envelope::{AgentId, EndId};
 use hub_loop::Held;
 use hub_ports::{Hub, channel};
 use hub_queue::{Bell, Ends, Mailbox, Poster};
-use hub_test_parts::body;
+use hub_test_parts::{Loop, body};
 use std::alloc::Global;
 use std::sync::Wait;
 
@@ -51,7 +51,12 @@ fn lends<R: Wait>(rt: &R, shared: &Shared, mut event_loop: Loop, line: Poster) -
     let is_lent = has_line(&mut event_loop)
         && holds_again(&mut event_loop)
         && has_line(&mut event_loop);
-    let ended = event_loop.end(rt, &shared.hub, &shared.directory, &shared.roster);
+    let ended = event_loop.end(
+        rt,
+        &shared.hub,
+        &shared.directory,
+        &mut shared.roster.lock(),
+    );
     let ended = ended.ok()?;
     let is_swept = is_left(&ended, &[(1, &[])], &[(1, 0)]);
     drop(ended);

@@ -1,21 +1,31 @@
 //! A fetch for which there may be no memory is tried once.
 use crate::left::is_left;
-use crate::parts::{Loop, Shared, open};
+use crate::parts::{Shared, open};
 use hub_clients::ClientQueue;
 use hub_envelope::{AgentId, EndId};
 use hub_loop::Ended;
 use hub_queue::{Ends, PostError, Poster};
-use hub_test_parts::post;
+use hub_test_parts::{Loop, post};
 use std::alloc::Global;
 use std::sync::Wait;
 
 // What a loop leaves. Where there was no memory the next call goes on.
 fn ended<R: Wait>(rt: &R, shared: &Shared, event_loop: Loop) -> Option<Ended> {
-    match event_loop.end(rt, &shared.hub, &shared.directory, &shared.roster) {
+    match event_loop.end(
+        rt,
+        &shared.hub,
+        &shared.directory,
+        &mut shared.roster.lock(),
+    ) {
         Ok(ended) => Some(ended),
         Err((_, event_loop)) => {
             event_loop
-                .end(rt, &shared.hub, &shared.directory, &shared.roster)
+                .end(
+                    rt,
+                    &shared.hub,
+                    &shared.directory,
+                    &mut shared.roster.lock(),
+                )
                 .ok()
         }
     }

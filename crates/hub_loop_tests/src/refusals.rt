@@ -1,12 +1,13 @@
 //! Ports and queues whose adoption is refused for good, since the yard knows their number already:
 //! another end of that number was adopted before, and its line has not gone on yet.
 use crate::left::is_left;
-use crate::parts::{Answer, Loop, Shared, delivers, holds, moves, notices, open, post_port};
+use crate::parts::{Answer, Shared, delivers, holds, moves, notices, open, post_port};
 use hub_clients::ClientQueue;
 use hub_envelope::{AgentId, EndId};
 use hub_loop::Held;
 use hub_ports::channel;
 use hub_queue::{Bell, Ends};
+use hub_test_parts::Loop;
 use std::alloc::Global;
 use std::sync::Wait;
 
@@ -75,7 +76,12 @@ fn refuses_port<R: Wait>(
 // The port that was refused is swept when the loop ends.
 fn sweeps_port<R: Wait>(rt: &R, shared: &Shared, first: Loop, second: &mut Loop) -> Option<bool> {
     let posted = post_port(rt, shared, second, 2, None, "4");
-    let ended = first.end(rt, &shared.hub, &shared.directory, &shared.roster);
+    let ended = first.end(
+        rt,
+        &shared.hub,
+        &shared.directory,
+        &mut shared.roster.lock(),
+    );
     let ended = ended.ok()?;
     let is_swept = is_left(
         &ended,
@@ -129,7 +135,9 @@ fn closes_queue<R: Wait>(
     let is_handed = hands(rt, shared, second);
     let is_refused = !event_loop.fetch(rt, hub, directory, EndId(0)).ok()?;
     let is_gone = !event_loop.fetch(rt, hub, directory, EndId(0)).ok()?;
-    let ended = event_loop.end(rt, hub, directory, &shared.roster).ok()?;
+    let ended = event_loop
+        .end(rt, hub, directory, &mut shared.roster.lock())
+        .ok()?;
     let is_swept = is_left(&ended, &[(0, &[]), (0, &[])], &[]);
     drop(ended);
     Some(is_fetched && is_handed && is_refused && is_gone && is_swept)

@@ -1,8 +1,8 @@
-use crate::note::{Loop, open_loop};
 use hub_broadcast::Origin;
 use hub_envelope::AgentId;
 use hub_life::{Event, Life, LifeError, Order, State};
 use hub_queue::{Bell, Listener};
+use hub_test_parts::{Loop, open_loop};
 use std::alloc::Global;
 
 /// An agent: its order, its event loop and the bell that wakes it, and the life of a worker.

@@ -1,8 +1,6 @@
 //! The lines beyond the step lines, which are known where turns are made.
 
-use crate::counted_take::turn;
 use crate::holding::{hold, loop_of, release};
-use crate::note::Loop;
 use crate::player::Player;
 use crate::stop::Stop;
 use crate::told::Told;
@@ -12,6 +10,7 @@ use hub_envelope::{AgentId, EndId, LineId};
 use hub_loop::{Held, Turn};
 use hub_ports::Hub;
 use hub_steps::Shown;
+use hub_test_parts::{Loop, turn};
 use hub_text::{next_word, number_of};
 use std::str;
 use std::sync::Wait;

@@ -1,10 +1,9 @@
 //! What the loops of the agents hold.
 
 use crate::agent::Agent;
-use crate::note::Loop;
 use hub_envelope::{AgentId, EndId};
 use hub_loop::Held;
-use hub_ports::Port;
+use hub_test_parts::Loop;
 
 /// The loop of an agent. `None` where it has ended.
 pub(crate) fn loop_of(agents: &mut Vec<Agent>, agent: AgentId) -> Option<&mut Loop> {
@@ -34,15 +33,4 @@ pub(crate) fn hold(agents: &mut Vec<Agent>, agent: AgentId, held: Held) -> bool 
 /// The end of this number, which the loop holds no more.
 pub(crate) fn release(agents: &mut Vec<Agent>, agent: AgentId, end: EndId) -> Option<Held> {
     loop_of(agents, agent)?.release(end)
-}
-
-/// The port of this number, which the loop holds no more.
-pub(crate) fn release_port(agents: &mut Vec<Agent>, agent: AgentId, end: EndId) -> Option<Port> {
-    match release(agents, agent, end)? {
-        Held::Port(port) => Some(port),
-        held => {
-            drop(held);
-            None
-        }
-    }
 }

@@ -2,7 +2,6 @@
 
 use crate::closing::shown_of;
 use crate::lines::Lent;
-use crate::note::Loop;
 use crate::player::Player;
 use crate::seat::{Place, Seat};
 use crate::stop::Stop;
@@ -12,6 +11,7 @@ use hub_envelope::{AgentId, EndId, Items};
 use hub_loop::{ClosedPort, Ended};
 use hub_queue::Swept;
 use hub_steps::Shown;
+use hub_test_parts::Loop;
 use std::sync::Wait;
 
 impl Player {
@@ -42,10 +42,10 @@ impl Player {
 
     /// What a loop leaves. Where there was no memory the next call goes on.
     fn ended<R: Wait>(&self, rt: &R, event_loop: Loop) -> Result<Ended, Stop> {
-        match event_loop.end(rt, &self.hub, &self.directory, &self.roster) {
+        match event_loop.end(rt, &self.hub, &self.directory, &mut self.roster.lock()) {
             Ok(ended) => Ok(ended),
             Err((_, event_loop)) => {
-                match event_loop.end(rt, &self.hub, &self.directory, &self.roster) {
+                match event_loop.end(rt, &self.hub, &self.directory, &mut self.roster.lock()) {
                     Ok(ended) => Ok(ended),
                     Err(_) => Err(Stop::OutOfMemory),
                 }

@@ -1,6 +1,6 @@
 //! Posts, with the ports that are sent along.
 
-use crate::holding::{hold, loop_of, release_port};
+use crate::holding::{hold, loop_of};
 use crate::lines::Lent;
 use crate::player::{Player, Standing, answer, not_now};
 use crate::seat::{Kind, Place};
@@ -11,6 +11,7 @@ use hub_loop::Held;
 use hub_ports::{Closings, Port, PortError, send};
 use hub_queue::Posted;
 use hub_steps::Shown;
+use hub_test_parts::release_port;
 use std::sync::Wait;
 
 impl Player {
@@ -39,7 +40,11 @@ impl Player {
                 return Err(Stop::Unexpected);
             };
             seat.place = Place::InFlight;
-            let Some(port) = release_port(&mut self.agents, agent, *end) else {
+            let released = match loop_of(&mut self.agents, agent) {
+                Some(event_loop) => release_port(event_loop, *end),
+                None => None,
+            };
+            let Some(port) = released else {
                 return Err(Stop::Unexpected);
             };
             if ports.push(port).is_err() {

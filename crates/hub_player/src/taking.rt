@@ -1,16 +1,49 @@
 //! Starts and takes.
 
-use crate::counted_take::take_from;
-use crate::holding::loop_of;
+use crate::holding::{hold_in, loop_of};
 use crate::player::{Player, Standing, answer, not_now};
 use crate::seat::Kind;
 use crate::stop::Stop;
 use hub_core::Outcome;
 use hub_envelope::{AgentId, EndId, Envelope};
+use hub_loop::Held;
 use hub_ports::Arrived;
 use hub_queue::Took;
 use hub_steps::Shown;
+use hub_test_parts::{Loop, take};
 use std::sync::Wait;
+
+/// Takes once from the end of this number, which the loop holds. `None` where it doesn't.
+fn take_from<R: Wait>(rt: &R, event_loop: &mut Loop, end: EndId) -> Option<Took> {
+    if let Some(port) = event_loop.port_mut(end) {
+        return Some(take(rt, port));
+    }
+    if let Some(member) = event_loop.member_mut(end) {
+        return Some(take(rt, member));
+    }
+    if let Some(queue) = event_loop.client_mut(end) {
+        return Some(take(rt, queue));
+    }
+    take_of_worker(rt, event_loop, end)
+}
+
+/// Takes from the queue of a worker, which the loop gives out for it, since it lends none.
+fn take_of_worker<R: Wait>(rt: &R, event_loop: &mut Loop, end: EndId) -> Option<Took> {
+    match event_loop.release(end)? {
+        Held::Worker(mut queue) => {
+            let took = take(rt, &mut queue);
+            if hold_in(event_loop, Held::Worker(queue)) {
+                Some(took)
+            } else {
+                None
+            }
+        }
+        held => {
+            drop(held);
+            None
+        }
+    }
+}
 
 impl Player {
     pub(crate) fn start(&mut self, end: EndId) -> Result<Shown, Stop> {

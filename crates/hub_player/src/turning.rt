@@ -1,8 +1,6 @@
 //! Turns of the loops, told as the step lines that do the same.
 
-use crate::counted_take::turn;
 use crate::holding::loop_of;
-use crate::note::Delivered;
 use crate::player::Player;
 use crate::seat::Place;
 use crate::stop::Stop;
@@ -11,6 +9,7 @@ use hub_core::Outcome;
 use hub_envelope::{AgentId, EndId};
 use hub_loop::{Held, LoopError, Turn};
 use hub_steps::Shown;
+use hub_test_parts::{Delivered, turn};
 use std::mem::replace;
 use std::sync::Wait;
 

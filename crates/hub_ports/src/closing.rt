@@ -8,12 +8,12 @@ ghost use Rattle.hub_ports.specs.Seats.{end_of};
 
 use crate::closing_step::ClosingStep;
 use crate::closings::{Closing, Closings};
-use crate::hears::{Hears, Unheard};
 use crate::noticed::Noticed;
 use crate::port::Port;
 use crate::spent::Spent;
 use hub_depot::Depot;
 use hub_envelope::Draft;
+use hub_locked::{Hears, Unheard};
 use hub_queue::{Grave, Onward, PostError, Poster, Taker};
 use std::alloc::Global;
 use std::sync::Wait;
@@ -46,25 +46,25 @@ fn put_notice<H: Hears<ClosingStep>, R: Wait>(
         ≡ option_map (λ list. list ++ ClosingStep.Notice result ∷ []) (H.told heard.old) }
 {
     let noticed = post_notice(rt, alloc, yard, poster);
-    heard.tell(ClosingStep::Notice(noticed));
+    heard.tell(rt, ClosingStep::Notice(noticed));
     noticed
 }
 
 // Closes the own end of a port, and tells of it.
-fn shut<H: Hears<ClosingStep>>(taker: Taker, heard: &mut H) -> Grave
+fn shut<H: Hears<ClosingStep>, R: Wait>(rt: &R, taker: Taker, heard: &mut H) -> Grave
     ensures grave { IsClosed taker result }
     ensures told { H.told heard.new ≡ option_map (λ list.
         list ++ ClosingStep.Close (record { 0 = taker.end }) ∷ []) (H.told heard.old) }
 {
     let end = taker.end();
     let grave = taker.close();
-    heard.tell(ClosingStep::Close(end));
+    heard.tell(rt, ClosingStep::Close(end));
     grave
 }
 
-// Closes a port: the notice first, while its own end is open, and then that end. Whoever is told
-// hears each step where it is done, so a contract sees their order.
-fn close_in_order<H: Hears<ClosingStep>, R: Wait>(
+/// Closes a port: the notice first, while its own end is open, and then that end. Whoever is told
+/// hears each step where it is done, so a contract sees their order.
+pub fn close_in_order<H: Hears<ClosingStep>, R: Wait>(
     rt: &R,
     alloc: Global,
     yard: &Depot<Onward>,
@@ -78,7 +78,7 @@ fn close_in_order<H: Hears<ClosingStep>, R: Wait>(
 {
     let (taker, mut poster) = port.into_parts();
     let noticed = put_notice(rt, alloc, yard, &mut poster, heard);
-    let grave = shut(taker, heard);
+    let grave = shut(rt, taker, heard);
     (grave, Spent { poster }, noticed)
 }
 

@@ -4,11 +4,11 @@ ghost use Rattle.std.specs.FinMap as map;
 ghost use Rattle.hub_ports.specs.Closing.{AreToldEmptied};
 
 use crate::closing::close_port;
-use crate::hears::Hears;
 use crate::noticed::Noticed;
 use crate::port::Port;
 use crate::spent::Spent;
 use hub_depot::{Depot, Kept};
+use hub_locked::Hears;
 use hub_queue::{Grave, Onward, Swept};
 use std::alloc::Global;
 use std::sync::Wait;
@@ -18,7 +18,7 @@ use std::sync::Wait;
 /// them that are in flight are met there. It tells of each end what is left of it.
 ///
 /// After an error, which is want of memory, the end that was closed last comes back.
-pub(crate) fn close_flight<H: Hears<(Swept, Option<(Spent, Noticed)>)>, R: Wait>(
+pub fn close_flight<H: Hears<(Swept, Option<(Spent, Noticed)>)>, R: Wait>(
     rt: &R,
     alloc: Global,
     yard: &Depot<Onward>,
@@ -31,12 +31,12 @@ pub(crate) fn close_flight<H: Hears<(Swept, Option<(Spent, Noticed)>)>, R: Wait>
         AreToldEmptied grave flight.old map.empty before (H.told heard.new))) }
 {
     match grave {
-        Some(grave) => heard.tell((grave.sweep_out(rt)?, None)),
+        Some(grave) => heard.tell(rt, (grave.sweep_out(rt)?, None)),
         None => {}
     }
     while let Some(port) = flight.take_any() {
         let (grave, spent, noticed) = close_port(rt, alloc, yard, port);
-        heard.tell((grave.sweep_out(rt)?, Some((spent, noticed))));
+        heard.tell(rt, (grave.sweep_out(rt)?, Some((spent, noticed))));
     }
     Ok(())
 }

@@ -9,8 +9,9 @@ ghost use Rattle.hub_ports.specs.Splitting.{IsSplit};
 
 use crate::port::Port;
 use crate::send_refusal::SendRefusal;
-use hub_depot::{DepotError, Key, Shelf};
+use hub_depot::{DepotError, Kept, Key, put_in, take_in};
 use hub_envelope::{EndId, LineId};
+use hub_locked::Lends;
 use std::sync::Wait;
 
 /// The name under which a port waits in flight: its number, with epoch 0 and line 0.
@@ -26,9 +27,9 @@ pub(crate) fn place(end: EndId) -> Key
 
 /// Puts the ports of a list in flight, from the last to the first, so that what is still in hand is
 /// always a beginning of the list. After an error the port that was refused is the last in hand.
-pub(crate) fn send_off<S: Shelf<Port>, R: Wait>(
+pub(crate) fn send_off<L: Lends<Kept<Port>>, R: Wait>(
     rt: &R,
-    flight: &mut S,
+    flight: &mut L,
     ports: &mut Vec<Port>,
 ) -> Result<(), SendRefusal>
     ensures all { OnOk result (ports.new.items ≡ []) }
@@ -37,11 +38,11 @@ pub(crate) fn send_off<S: Shelf<Port>, R: Wait>(
     ensures kept { OnErr result (0 < vec_len ports.new) }
     ensures stayed { ports.new.items ≡ take (vec_len ports.new) ports.old.items }
     ensures room { vec_len ports.old ≤ vec_capacity ports.new }
-    ensures flown { IfSome (S.shown flight.old) (λ kept.
-        HaveFlownBehind kept ports.old.items ports.new.items (S.shown flight.new)) }
+    ensures flown { IfSome (L.shown flight.old) (λ kept.
+        HaveFlownBehind kept ports.old.items ports.new.items (L.shown flight.new)) }
 {
     while let Some(port) = ports.pop() {
-        match flight.put(rt, port) {
+        match put_in(rt, flight, port) {
             Ok(()) => {}
             Err(DepotError::Taken(port)) => {
                 ports.push_reserved(port);
@@ -58,9 +59,9 @@ pub(crate) fn send_off<S: Shelf<Port>, R: Wait>(
 
 /// Takes the ports of a list back from flight, in order. Those that it begins with are in hand
 /// still.
-pub(crate) fn call_back<S: Shelf<Port>, R: Wait>(
+pub(crate) fn call_back<L: Lends<Kept<Port>>, R: Wait>(
     rt: &R,
-    flight: &mut S,
+    flight: &mut L,
     numbers: &[EndId],
     ports: &mut Vec<Port>,
     missing: &mut Vec<EndId>,
@@ -72,14 +73,14 @@ pub(crate) fn call_back<S: Shelf<Port>, R: Wait>(
     ensures split { IsSplit numbers.now (ends_of ports.new.items) missing.new.items }
     // Where these very ports were put in flight, and no other since, they come back.
     ensures back { (kept : Flight) (sent : List PortSeat)
-        → S.shown flight.old ≡ Some (in_flight kept sent) → AreFree kept sent
+        → L.shown flight.old ≡ Some (in_flight kept sent) → AreFree kept sent
         → numbers.now ≡ ends_of ports.old.items ++ ends_of sent
         → (ports.new.items ≡ ports.old.items ++ sent) × (missing.new.items ≡ [])
-        × (S.shown flight.new ≡ Some kept) }
+        × (L.shown flight.new ≡ Some kept) }
 {
     for index in ports.len()..numbers.len() {
         let number = numbers[index];
-        match flight.take(rt, place(number)) {
+        match take_in(rt, flight, place(number)) {
             Some(port) => ports.push_reserved(port),
             None => missing.push_reserved(number),
         }

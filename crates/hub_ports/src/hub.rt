@@ -1,10 +1,10 @@
 use crate::arrival::Arrival;
 use crate::arriving::arrive_from;
 use crate::ending::close_flight;
-use crate::hears::Unheard;
 use crate::port::Port;
 use hub_depot::Depot;
 use hub_envelope::{Envelope, OutOfMemory};
+use hub_locked::Unheard;
 use hub_queue::{Grave, Onward};
 use std::alloc::{AllocError, Global};
 use std::sync::{Mutex, Wait};
@@ -55,7 +55,7 @@ impl Hub {
         ensures { IfOk result (λ arrival.
             IsSplit envelope.now.ports (ends_of arrival.found.items) arrival.missing.items) }
     {
-        let mut flight = &self.flight;
+        let mut flight = self.flight.lock();
         arrive_from(rt, &mut flight, self.alloc, envelope.ports.as_slice())
     }
 

@@ -13,8 +13,9 @@ use crate::hub::Hub;
 use crate::port::Port;
 use crate::port_error::PortError;
 use crate::send_refusal::SendRefusal;
-use hub_depot::Shelf;
+use hub_depot::Kept;
 use hub_envelope::{AgentId, Body, Draft, EndId, MAX_PORTS, OutOfMemory, Ports};
+use hub_locked::Lends;
 use hub_queue::{PostError, Posted, Poster};
 use std::alloc::Global;
 use std::sync::Wait;
@@ -72,13 +73,12 @@ fn turned_back(error: PostError, draft: Draft, none: Vec<Port>) -> Result<Posted
     Err(refused_whole(SendRefusal::of_line(error), body, none))
 }
 
-// Posts a body with at most so many ports as an envelope may have, over any shelf as the flight: of
-// the hub it uses the yard and the allocator alone. What giving them back wants is reserved before
-// the first is in flight.
-fn post_with_ports<S: Shelf<Port>, R: Wait>(
+// Posts a body with at most so many ports as an envelope may have, over a flight that anybody
+// lends. What giving them back wants is reserved before the first is in flight.
+fn post_with_ports<L: Lends<Kept<Port>>, R: Wait>(
     rt: &R,
     hub: &Hub,
-    flight: &mut S,
+    flight: &mut L,
     line: &mut Poster,
     agent: AgentId,
     body: Body,
@@ -88,8 +88,8 @@ fn post_with_ports<S: Shelf<Port>, R: Wait>(
     ensures sent { IsSent line.old line.new agent body ports.items result }
     ensures many { IsTooMany result → ⊥ }
     ensures doomed { IsDoomed result → ⊥ }
-    ensures flown { IfSome (S.shown flight.old) (λ kept.
-        IsFlown kept ports.items (S.shown flight.new) result) }
+    ensures flown { IfSome (L.shown flight.old) (λ kept.
+        IsFlown kept ports.items (L.shown flight.new) result) }
 {
     let Ok(numbers) = numbers_of(hub.alloc, ports.as_slice()) else {
         return Err(PortError::OutOfMemory(body, ports));
@@ -125,13 +125,15 @@ fn post_with_ports<S: Shelf<Port>, R: Wait>(
     }
 }
 
-// Posts a body with the ports of a list, over any shelf as the flight. It is no part of `send`, so
-// that a post without ports doesn't pay for the room that the errors of a list take on the stack.
+/// Posts a body with the ports of a list, over a flight that anybody lends: of the hub it uses the
+/// yard and the allocator alone. The errors are those of `Port::post`.
+// It is no part of `send`, so that a post without ports doesn't pay for the room that the errors of
+// a list take on the stack.
 #[inline(never)]
-fn send_with_ports<S: Shelf<Port>, R: Wait>(
+pub fn send_with_ports<L: Lends<Kept<Port>>, R: Wait>(
     rt: &R,
     hub: &Hub,
-    flight: &mut S,
+    flight: &mut L,
     line: &mut Poster,
     agent: AgentId,
     body: Body,
@@ -141,8 +143,8 @@ fn send_with_ports<S: Shelf<Port>, R: Wait>(
     ensures many { IsTooMany result ↔ (MAX_PORTS < length transfer.items) }
     ensures doomed { IsDoomed result ↔ ((length transfer.items ≤ MAX_PORTS)
         × Contains (ends_of transfer.items) line.old.name.end) }
-    ensures flown { IfSome (S.shown flight.old) (λ kept.
-        IsFlown kept transfer.items (S.shown flight.new) result) }
+    ensures flown { IfSome (L.shown flight.old) (λ kept.
+        IsFlown kept transfer.items (L.shown flight.new) result) }
 {
     if transfer.len() > MAX_PORTS {
         return Err(PortError::TooManyPorts(body, transfer));
@@ -174,7 +176,7 @@ pub fn send<R: Wait>(
         × Contains (ends_of transfer.items) line.old.name.end) }
 {
     if !transfer.is_empty() {
-        let mut flight = &hub.flight;
+        let mut flight = hub.flight.lock();
         return send_with_ports(rt, hub, &mut flight, line, agent, body, transfer);
     }
     let draft = Draft {

@@ -8,6 +8,8 @@ use Rattle.std.specs.declared.alloc.Global.{Global}
 use Rattle.std.specs.contracts.impls.GlobalAllocator.TheImpl.{ghosts}
 use Rattle.hub_ports_c.specs.declared.kept.Kept.{Kept}
 use Rattle.hub_ports_c.specs.Kept.{HasName, is_grave, is_port}
+use Rattle.hub_ports_c.specs.KeptFans.{OpensLine, AtFan, is_fan, is_fan_grave, is_poster}
+use Rattle.hub_ports_c.specs.KeptGroups.{AtGroup, Counts, Joins, is_group}
 use Rattle.hub_ports_c.specs.contracts.kept.Kept.{the_row}
 
 abbrev pub Held : Type 0
@@ -47,3 +49,44 @@ is_grave_in (Some k) = is_grave k
 abbrev pub IsNamed : ℕ → Held → Type 0
 IsNamed name None = ⊥
 IsNamed name (Some k) = HasName name k
+
+-- nothing was held, and something is, of which this holds
+abbrev pub New : (Kept → Type 0) → Held → Held → Type 0
+New P None (Some k) = P k
+New P h k = ⊥
+
+-- something was held of which this holds, and nothing is
+abbrev pub Gives : (Kept → Type 0) → Held → Held → Type 0
+Gives P (Some k) None = P k
+Gives P h k = ⊥
+
+abbrev pub is_fan_in : Held → Bool
+is_fan_in None = false
+is_fan_in (Some k) = is_fan k
+
+abbrev pub is_fan_grave_in : Held → Bool
+is_fan_grave_in None = false
+is_fan_grave_in (Some k) = is_fan_grave k
+
+abbrev pub is_poster_in : Held → Bool
+is_poster_in None = false
+is_poster_in (Some k) = is_poster k
+
+abbrev pub is_group_in : Held → Bool
+is_group_in None = false
+is_group_in (Some k) = is_group k
+
+-- a line was opened at a fan that is held, and its poster is held, where nothing was
+abbrev pub OpensLineIn : ℕ → Held → Held → Held → Held → Type 0
+OpensLineIn line old new None (Some p) = Both (AtFan (OpensLine line p)) old new
+OpensLineIn line old new h p = ⊥
+
+-- a poster that was held became that of the last member of a group that is held
+abbrev pub JoinsIn : ℕ → Held → Held → Held → Held → Type 0
+JoinsIn number old new (Some p) None = Both (AtGroup (Joins number p)) old new
+JoinsIn number old new p h = ⊥
+
+-- a group is held, which has so many members
+abbrev pub CountsIn : ℕ → Held → Type 0
+CountsIn count None = ⊥
+CountsIn count (Some k) = Counts count k

@@ -1,22 +1,20 @@
 -- What a handle holds, and what a call makes of it.
 use Rattle.std.specs.Prelude.{◌≡◌, ℕ, Bool, true, false, [], ◌∷◌, ◌++◌}
-use Rattle.hub_line.specs.Ends.{taken, HasEnded, HasLooked, HasNoneLeft, IsInOrder, IsOver, SameTaker}
+use Rattle.hub_line.specs.Ends.{taken, HasEnded, HasLooked, HasNoneLeft, HasSome, IsInOrder, IsOver, SameTaker}
 use Rattle.hub_line.specs.declared.grave.LineGrave.{LineGrave}
 use Rattle.hub_channel.specs.Ports.{ArePeers, NothingGot, NothingSent, SameEnds, got, sent}
 use Rattle.hub_channel.specs.declared.port.ChannelPort.{ChannelPort}
 use Rattle.hub_ports_c.specs.declared.message.Message.{Message}
 use Rattle.hub_ports_c.specs.declared.kept.Kept.{Kept}
-use Rattle.hub_ports_c.specs.declared.kept.Kept.TheVariants.{Port, Grave, Gone}
+use Rattle.hub_ports_c.specs.declared.kept.Kept.TheVariants.{Port, Grave}
 
 abbrev pub is_port : Kept → Bool
 is_port (Port p) = true
-is_port (Grave g) = false
-is_port Gone = false
+is_port k = false
 
 abbrev pub is_grave : Kept → Bool
-is_grave (Port p) = false
 is_grave (Grave g) = true
-is_grave Gone = false
+is_grave k = false
 
 -- a port was held, and one is, and this holds of the two
 abbrev pub AtPort : (ChannelPort Message → ChannelPort Message → Type 0) → Kept → Kept → Type 0
@@ -61,6 +59,10 @@ Becomes started p q = SameEnds p q × NothingSent p q × NothingGot p q × (q.is
 abbrev pub FindsNone : ChannelPort Message → ChannelPort Message → Type 0
 FindsNone p q = HasNoneLeft q.from × HasLooked p.from q.from
 
+-- the line of the port was looked into, and a message or the end is known
+abbrev pub FindsSome : ChannelPort Message → ChannelPort Message → Type 0
+FindsSome p q = HasSome q.from
+
 -- the port became a closed one, which has taken what the port had
 abbrev pub Closes : Kept → Kept → Type 0
 Closes (Port p) (Grave g) = SameTaker p.from g.taker × (taken g.taker ≡ got p)
@@ -87,5 +89,4 @@ NewPeers name k l = ⊥
 
 abbrev pub HasName : ℕ → Kept → Type 0
 HasName name (Port p) = p.name ≡ name
-HasName name (Grave g) = ⊥
-HasName name Gone = ⊥
+HasName name k = ⊥

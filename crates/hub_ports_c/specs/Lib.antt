@@ -1,2 +1,5 @@
 pub mod Kept
+pub mod KeptFans
+pub mod KeptGroups
 pub mod Held
+pub mod Handles

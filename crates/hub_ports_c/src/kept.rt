@@ -4,6 +4,8 @@ ghost use Rattle.std.specs.Prelude.{◌≡◌, ◌⊎◌, true, false};
 use crate::message::Message;
 use crate::status::{CLOSED, DISABLED, DONE, EMPTY, ENDED, NO_MEMORY, WRONG_STATE};
 use hub_channel::{Armed, ChannelPort, ClosedPort, LineGrave, LineTaken, NotPosted, PortTaken};
+use hub_fan::{Fan, FanGrave, FanPoster};
+use hub_group::CastGroup;
 use std::mem;
 
 /// What a handle holds.
@@ -12,12 +14,18 @@ pub enum Kept {
     Port(ChannelPort<Message>),
     /// A port that was closed.
     Grave(LineGrave<Message>),
+    Fan(Fan<Message>),
+    /// A fan that was closed.
+    FanGrave(FanGrave<Message>),
+    Poster(FanPoster<Message>),
+    Group(CastGroup<Message>),
     /// Nothing, within a call.
     Gone,
 }
 
-// What comes of a look that an armed port was given: its old token, and whether something waits.
-fn looked(armed: Armed, old: &mut u64) -> u8
+/// What comes of a look that an armed port or fan was given: its old token, and whether something
+/// waits.
+pub(crate) fn looked(armed: Armed, old: &mut u64) -> u8
     ensures waits { result ≡ 0 → armed.waits ≡ true }
     ensures none { result ≡ 1 → armed.waits ≡ false }
     ensures token { old.new ≡ armed.token }
@@ -30,10 +38,13 @@ fn looked(armed: Armed, old: &mut u64) -> u8
 impl Kept {
     ghost use Rattle.std.specs.Prelude.{◌≡◌, ◌⊎◌, true, false};
     ghost use Rattle.hub_ports_c.specs.Kept.{is_port, is_grave, AtPort, AtGrave, Closes};
-    ghost use Rattle.hub_ports_c.specs.Kept.{Posts, PostsNothing, RefusesClosed, Takes, TakesNone, TakesLast, Waits};
-    ghost use Rattle.hub_ports_c.specs.Kept.{Becomes, FindsNone, HasName, HandsBack, HandsBackNone, HandsBackLast};
+    ghost use Rattle.hub_ports_c.specs.Kept.{Posts, PostsNothing, RefusesClosed, Takes, TakesNone};
+    ghost use Rattle.hub_ports_c.specs.Kept.{TakesLast, Waits};
+    ghost use Rattle.hub_ports_c.specs.Kept.{Becomes, FindsNone, FindsSome, HasName, HandsBack};
+    ghost use Rattle.hub_ports_c.specs.Kept.{HandsBackNone, HandsBackLast};
 
     /// Posts a message.
+    #[inline(always)]
     pub(crate) fn post(&mut self, message: &Message, wake: &mut u64) -> u8
         ensures posted { result ≡ 0 → AtPort (Posts message.now) self.old self.new }
         ensures no_memory { result ≡ 3 → AtPort PostsNothing self.old self.new }
@@ -56,6 +67,7 @@ impl Kept {
     }
 
     /// Takes a message.
+    #[inline(always)]
     pub(crate) fn take(&mut self, message: &mut Message) -> u8
         ensures took { result ≡ 0 → AtPort (Takes message.new) self.old self.new }
         ensures empty { result ≡ 1 → AtPort TakesNone self.old self.new }
@@ -63,7 +75,8 @@ impl Kept {
         ensures disabled { result ≡ 4 → AtPort Waits self.old self.new }
         ensures other { result ≡ 5 → (is_port self.old ≡ false) × (self.new ≡ self.old) }
         ensures message { (result ≡ 0) ⊎ (message.new ≡ message.old) }
-        ensures statuses { (result ≡ 0) ⊎ ((result ≡ 1) ⊎ ((result ≡ 2) ⊎ ((result ≡ 4) ⊎ (result ≡ 5)))) }
+        ensures statuses { (result ≡ 0)
+            ⊎ ((result ≡ 1) ⊎ ((result ≡ 2) ⊎ ((result ≡ 4) ⊎ (result ≡ 5)))) }
     {
         let Kept::Port(port) = self else {
             return WRONG_STATE;
@@ -95,8 +108,10 @@ impl Kept {
     /// Says by its token whom to wake for a port, and looks into it then.
     pub(crate) fn arm(&mut self, token: u64, old: &mut u64) -> u8
         ensures armed { (result ≡ 5) ⊎ AtPort PostsNothing self.old self.new }
+        ensures some { result ≡ 0 → AtPort FindsSome self.old self.new }
         ensures none { result ≡ 1 → AtPort FindsNone self.old self.new }
-        ensures other { result ≡ 5 → (is_port self.old ≡ false) × (self.new ≡ self.old) × (old.new ≡ old.old) }
+        ensures other { result ≡ 5 → (is_port self.old ≡ false) × (self.new ≡ self.old)
+            × (old.new ≡ old.old) }
         ensures statuses { (result ≡ 0) ⊎ ((result ≡ 1) ⊎ (result ≡ 5)) }
     {
         let Kept::Port(port) = self else {
@@ -108,8 +123,10 @@ impl Kept {
     /// Makes a port that of another owner, disabled, and looks into it then.
     pub(crate) fn adopt(&mut self, token: u64, old: &mut u64) -> u8
         ensures adopted { (result ≡ 5) ⊎ AtPort (Becomes false) self.old self.new }
+        ensures some { result ≡ 0 → AtPort FindsSome self.old self.new }
         ensures none { result ≡ 1 → AtPort FindsNone self.old self.new }
-        ensures other { result ≡ 5 → (is_port self.old ≡ false) × (self.new ≡ self.old) × (old.new ≡ old.old) }
+        ensures other { result ≡ 5 → (is_port self.old ≡ false) × (self.new ≡ self.old)
+            × (old.new ≡ old.old) }
         ensures statuses { (result ≡ 0) ⊎ ((result ≡ 1) ⊎ (result ≡ 5)) }
     {
         let Kept::Port(port) = self else {
@@ -134,7 +151,8 @@ impl Kept {
     /// Closes a port, which leaves its grave.
     pub(crate) fn close(&mut self, own: &mut u64, peer: &mut u64) -> u8
         ensures closed { result ≡ 0 → Closes self.old self.new }
-        ensures other { result ≡ 5 → (is_port self.old ≡ false) × (self.new ≡ self.old) × (own.new ≡ own.old) × (peer.new ≡ peer.old) }
+        ensures other { result ≡ 5 → (is_port self.old ≡ false) × (self.new ≡ self.old)
+            × (own.new ≡ own.old) × (peer.new ≡ peer.old) }
         ensures statuses { (result ≡ 0) ⊎ (result ≡ 5) }
     {
         match mem::replace(self, Kept::Gone) {

@@ -1,12 +1,18 @@
-//! Ports for callers that aren't written in Rattle, as C programs. One call at a time is made for
-//! one handle; the two ports of a channel are two handles, and may be in two threads.
+//! Ports, fans and groups for callers that aren't written in Rattle, as C programs. One call at a
+//! time is made for one handle. The two ports of a channel are two handles, and so are a fan and
+//! each of its posters: they may be in as many threads.
 #![tactic(auto)]
 
+mod fan;
+mod group;
 mod handle;
 mod kept;
+mod kept_fan;
+mod kept_group;
 mod message;
 mod parts;
 mod port;
+mod poster;
 mod sending;
 mod slot;
 mod status;

@@ -1,8 +1,11 @@
 //! The calls for a port.
 ghost use Rattle.std.specs.Prelude.{◌≡◌, ◌⊎◌, None, false, true};
-ghost use Rattle.hub_ports_c.specs.Held.{Both, BothNew, IsNamed, is_grave_in, is_port_in};
-ghost use Rattle.hub_ports_c.specs.Kept.{AtPort, AtGrave, Becomes, Closes, FindsNone, HandsBack, HandsBackLast, HandsBackNone};
-ghost use Rattle.hub_ports_c.specs.Kept.{NewPeers, Posts, PostsNothing, RefusesClosed, Takes, TakesLast, TakesNone, Waits};
+ghost use Rattle.hub_ports_c.specs.Handles.{At, BothOpenAs, HeldNo, SameHeld};
+ghost use Rattle.hub_ports_c.specs.Held.{IsNamed, is_grave_in, is_port_in};
+ghost use Rattle.hub_ports_c.specs.Kept.{AtPort, AtGrave, Becomes, Closes, FindsNone, FindsSome};
+ghost use Rattle.hub_ports_c.specs.Kept.{HandsBack, HandsBackLast, HandsBackNone};
+ghost use Rattle.hub_ports_c.specs.Kept.{NewPeers, Posts, PostsNothing, RefusesClosed, Takes};
+ghost use Rattle.hub_ports_c.specs.Kept.{TakesLast, TakesNone, Waits};
 
 use crate::handle::Handle;
 use crate::kept::Kept;
@@ -19,7 +22,7 @@ pub extern "C" fn varukoni_channel_open(
     right: &mut Handle,
     name: u64,
 ) -> u8
-    ensures opened { result ≡ 0 → BothNew (NewPeers name) left.old.slot.held right.old.slot.held left.new.slot.held right.new.slot.held }
+    ensures opened { result ≡ 0 → BothOpenAs (NewPeers name) left.old right.old left.new right.new }
     ensures refused { (result ≡ 0) ⊎ ((left.new ≡ left.old) × (right.new ≡ right.old)) }
     ensures other { result ≡ 5 → (left.old.is_open ≡ true) ⊎ (right.old.is_open ≡ true) }
     ensures statuses { (result ≡ 0) ⊎ ((result ≡ 3) ⊎ (result ≡ 5)) }
@@ -49,10 +52,10 @@ pub extern "C" fn varukoni_port_post(
     message: &Message,
     wake: &mut u64,
 ) -> u8
-    ensures posted { result ≡ 0 → Both (AtPort (Posts message.now)) handle.old.slot.held handle.new.slot.held }
-    ensures no_memory { result ≡ 3 → Both (AtPort PostsNothing) handle.old.slot.held handle.new.slot.held }
-    ensures closed { result ≡ 6 → Both (AtPort RefusesClosed) handle.old.slot.held handle.new.slot.held }
-    ensures other { result ≡ 5 → (is_port_in handle.old.slot.held ≡ false) × (handle.new.slot.held ≡ handle.old.slot.held) }
+    ensures posted { result ≡ 0 → At (AtPort (Posts message.now)) handle.old handle.new }
+    ensures no_memory { result ≡ 3 → At (AtPort PostsNothing) handle.old handle.new }
+    ensures closed { result ≡ 6 → At (AtPort RefusesClosed) handle.old handle.new }
+    ensures other { result ≡ 5 → HeldNo is_port_in handle.old handle.new }
     ensures wake { (result ≡ 0) ⊎ (wake.new ≡ wake.old) }
     ensures statuses { (result ≡ 0) ⊎ ((result ≡ 3) ⊎ ((result ≡ 5) ⊎ (result ≡ 6))) }
 {
@@ -72,13 +75,14 @@ pub extern "C" fn varukoni_port_take(
     handle: &mut Handle,
     message: &mut Message,
 ) -> u8
-    ensures took { result ≡ 0 → Both (AtPort (Takes message.new)) handle.old.slot.held handle.new.slot.held }
-    ensures empty { result ≡ 1 → Both (AtPort TakesNone) handle.old.slot.held handle.new.slot.held }
-    ensures ended { result ≡ 2 → Both (AtPort TakesLast) handle.old.slot.held handle.new.slot.held }
-    ensures disabled { result ≡ 4 → Both (AtPort Waits) handle.old.slot.held handle.new.slot.held }
-    ensures other { result ≡ 5 → (is_port_in handle.old.slot.held ≡ false) × (handle.new.slot.held ≡ handle.old.slot.held) }
+    ensures took { result ≡ 0 → At (AtPort (Takes message.new)) handle.old handle.new }
+    ensures empty { result ≡ 1 → At (AtPort TakesNone) handle.old handle.new }
+    ensures ended { result ≡ 2 → At (AtPort TakesLast) handle.old handle.new }
+    ensures disabled { result ≡ 4 → At (AtPort Waits) handle.old handle.new }
+    ensures other { result ≡ 5 → HeldNo is_port_in handle.old handle.new }
     ensures message { (result ≡ 0) ⊎ (message.new ≡ message.old) }
-    ensures statuses { (result ≡ 0) ⊎ ((result ≡ 1) ⊎ ((result ≡ 2) ⊎ ((result ≡ 4) ⊎ (result ≡ 5)))) }
+    ensures statuses { (result ≡ 0)
+        ⊎ ((result ≡ 1) ⊎ ((result ≡ 2) ⊎ ((result ≡ 4) ⊎ (result ≡ 5)))) }
 {
     if !handle.is_open {
         return WRONG_STATE;
@@ -92,8 +96,8 @@ pub extern "C" fn varukoni_port_take(
 /// Starts a port: its messages may be taken.
 #[unsafe(no_mangle)]
 pub extern "C" fn varukoni_port_start(alloc: Global, handle: &mut Handle) -> u8
-    ensures started { result ≡ 0 → Both (AtPort (Becomes true)) handle.old.slot.held handle.new.slot.held }
-    ensures other { result ≡ 5 → (is_port_in handle.old.slot.held ≡ false) × (handle.new.slot.held ≡ handle.old.slot.held) }
+    ensures started { result ≡ 0 → At (AtPort (Becomes true)) handle.old handle.new }
+    ensures other { result ≡ 5 → HeldNo is_port_in handle.old handle.new }
     ensures statuses { (result ≡ 0) ⊎ (result ≡ 5) }
 {
     if !handle.is_open {
@@ -113,9 +117,10 @@ pub extern "C" fn varukoni_port_arm(
     token: u64,
     old: &mut u64,
 ) -> u8
-    ensures armed { (result ≡ 5) ⊎ Both (AtPort PostsNothing) handle.old.slot.held handle.new.slot.held }
-    ensures none { result ≡ 1 → Both (AtPort FindsNone) handle.old.slot.held handle.new.slot.held }
-    ensures other { result ≡ 5 → (is_port_in handle.old.slot.held ≡ false) × (handle.new.slot.held ≡ handle.old.slot.held) × (old.new ≡ old.old) }
+    ensures armed { (result ≡ 5) ⊎ At (AtPort PostsNothing) handle.old handle.new }
+    ensures some { result ≡ 0 → At (AtPort FindsSome) handle.old handle.new }
+    ensures none { result ≡ 1 → At (AtPort FindsNone) handle.old handle.new }
+    ensures other { result ≡ 5 → HeldNo is_port_in handle.old handle.new × (old.new ≡ old.old) }
     ensures statuses { (result ≡ 0) ⊎ ((result ≡ 1) ⊎ (result ≡ 5)) }
 {
     if !handle.is_open {
@@ -135,9 +140,10 @@ pub extern "C" fn varukoni_port_adopt(
     token: u64,
     old: &mut u64,
 ) -> u8
-    ensures adopted { (result ≡ 5) ⊎ Both (AtPort (Becomes false)) handle.old.slot.held handle.new.slot.held }
-    ensures none { result ≡ 1 → Both (AtPort FindsNone) handle.old.slot.held handle.new.slot.held }
-    ensures other { result ≡ 5 → (is_port_in handle.old.slot.held ≡ false) × (handle.new.slot.held ≡ handle.old.slot.held) × (old.new ≡ old.old) }
+    ensures adopted { (result ≡ 5) ⊎ At (AtPort (Becomes false)) handle.old handle.new }
+    ensures some { result ≡ 0 → At (AtPort FindsSome) handle.old handle.new }
+    ensures none { result ≡ 1 → At (AtPort FindsNone) handle.old handle.new }
+    ensures other { result ≡ 5 → HeldNo is_port_in handle.old handle.new × (old.new ≡ old.old) }
     ensures statuses { (result ≡ 0) ⊎ ((result ≡ 1) ⊎ (result ≡ 5)) }
 {
     if !handle.is_open {
@@ -158,8 +164,9 @@ pub extern "C" fn varukoni_port_close(
     own: &mut u64,
     peer: &mut u64,
 ) -> u8
-    ensures closed { result ≡ 0 → Both (Closes) handle.old.slot.held handle.new.slot.held }
-    ensures other { result ≡ 5 → (is_port_in handle.old.slot.held ≡ false) × (handle.new.slot.held ≡ handle.old.slot.held) × (own.new ≡ own.old) × (peer.new ≡ peer.old) }
+    ensures closed { result ≡ 0 → At Closes handle.old handle.new }
+    ensures other { result ≡ 5 → HeldNo is_port_in handle.old handle.new × (own.new ≡ own.old)
+        × (peer.new ≡ peer.old) }
     ensures statuses { (result ≡ 0) ⊎ (result ≡ 5) }
 {
     if !handle.is_open {
@@ -178,10 +185,10 @@ pub extern "C" fn varukoni_port_drain(
     handle: &mut Handle,
     message: &mut Message,
 ) -> u8
-    ensures handed { result ≡ 0 → Both (AtGrave (HandsBack message.new)) handle.old.slot.held handle.new.slot.held }
-    ensures empty { result ≡ 1 → Both (AtGrave HandsBackNone) handle.old.slot.held handle.new.slot.held }
-    ensures ended { result ≡ 2 → Both (AtGrave HandsBackLast) handle.old.slot.held handle.new.slot.held }
-    ensures other { result ≡ 5 → (is_grave_in handle.old.slot.held ≡ false) × (handle.new.slot.held ≡ handle.old.slot.held) }
+    ensures handed { result ≡ 0 → At (AtGrave (HandsBack message.new)) handle.old handle.new }
+    ensures empty { result ≡ 1 → At (AtGrave HandsBackNone) handle.old handle.new }
+    ensures ended { result ≡ 2 → At (AtGrave HandsBackLast) handle.old handle.new }
+    ensures other { result ≡ 5 → HeldNo is_grave_in handle.old handle.new }
     ensures message { (result ≡ 0) ⊎ (message.new ≡ message.old) }
     ensures statuses { (result ≡ 0) ⊎ ((result ≡ 1) ⊎ ((result ≡ 2) ⊎ (result ≡ 5))) }
 {
@@ -197,8 +204,9 @@ pub extern "C" fn varukoni_port_drain(
 /// The number by which the host has named the channel of a port: its two ports have the same.
 #[unsafe(no_mangle)]
 pub extern "C" fn varukoni_port_name(alloc: Global, handle: &mut Handle, name: &mut u64) -> u8
-    ensures named { result ≡ 0 → (handle.new.slot.held ≡ handle.old.slot.held) × IsNamed name.new handle.old.slot.held }
-    ensures other { result ≡ 5 → (is_port_in handle.old.slot.held ≡ false) × (handle.new.slot.held ≡ handle.old.slot.held) × (name.new ≡ name.old) }
+    ensures named { result ≡ 0 → SameHeld handle.old handle.new
+        × IsNamed name.new handle.old.slot.held }
+    ensures other { result ≡ 5 → HeldNo is_port_in handle.old handle.new × (name.new ≡ name.old) }
     ensures statuses { (result ≡ 0) ⊎ (result ≡ 5) }
 {
     if !handle.is_open {

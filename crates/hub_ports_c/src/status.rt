@@ -17,6 +17,9 @@ pub const WRONG_STATE: u8 = 5;
 /// The peer is closed: nothing was posted.
 pub const CLOSED: u8 = 6;
 
+/// No place is left: nothing was changed.
+pub const FULL: u8 = 10;
+
 /// The number of this interface. A change of a function, of a number or of what one means makes it
 /// another.
 pub const VERSION: u32 = 1;

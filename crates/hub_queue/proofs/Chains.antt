@@ -130,6 +130,25 @@ module _ {A : Type 0} where
   pub joined_on : (xs : List A) (x : A) (ys : List A) → xs ++ x ∷ ys ≡ (xs ++ x ∷ []) ++ ys
   joined_on xs x ys = sym (append_assoc xs (x ∷ []) ys)
 
+-- what was taken of a queue, and then more
+pub more_and_more : (p q r : TakerQueueSeat) (xs ys : List Envelope) → TakesMore p q xs → TakesMore q r ys → TakesMore p r (xs ++ ys)
+more_and_more p q r xs ys first second = record {
+  queue = second.queue ∙ first.queue;
+  same_gate = record {
+    gate = second.same_gate.gate ∙ first.same_gate.gate;
+    enables = second.same_gate.enables ∙ first.same_gate.enables;
+    retires = second.same_gate.retires ∙ first.same_gate.retires;
+    closes = second.same_gate.closes ∙ first.same_gate.closes;
+  };
+  end = second.end ∙ first.end;
+  epoch = second.epoch ∙ first.epoch;
+  lines = second.lines ∙ first.lines;
+  got = second.got ∙ ap (λ (l : List Envelope). l ++ ys) first.got ∙ append_assoc p.at.got xs ys;
+}
+
+pub same_queue : (p : TakerQueueSeat) → TakesMore p p []
+same_queue p = record { queue = refl; same_gate = record { gate = refl; enables = refl; retires = refl; closes = refl }; end = refl; epoch = refl; lines = refl; got = sym (append-nil p.at.got) }
+
 -- nothing was taken of any queue
 pub takes_none : (ps : List TakerQueueSeat) → TakesOfEach ps ps []
 takes_none [] = refl

@@ -1,6 +1,5 @@
 pub mod Below
 pub mod Chains
-pub mod Drains
 pub mod Hopping
 pub mod Hops
 pub mod InTurn

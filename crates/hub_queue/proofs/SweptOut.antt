@@ -1,15 +1,18 @@
 -- A grave is swept again and again.
 use Rattle.std.proofs.Common.{◌≡◌, ◌+◌, Bool, cond, List, [], ◌∷◌, ◌++◌, refl, sym, ap, ◌∙◌, arith, append_assoc, append-nil}
 use Rattle.std.specs.Prelude.{count_by}
+use Rattle.std.specs.List.{AllByRecursion}
+use Rattle.std.proofs.lemmas.List.Elements.{filter-append}
+use Rattle.hub_core.specs.Sender.{by}
 use Rattle.std.proofs.lemmas.List.Concat.{flat_map-cons}
 use Rattle.std.proofs.lemmas.List.Sums.{sum_by-append}
 use Rattle.hub_envelope.specs.declared.envelope.Envelope.{Envelope}
 use Rattle.hub_queue.specs.declared.grave.Sweep.TheVariants.{Discarded, StillInside, NoRoom}
 use Rattle.hub_queue.specs.Graves.{GraveSeat, SweptSeat}
 use Rattle.hub_queue.specs.Laws.{got_from}
-use Rattle.hub_queue.specs.TakerQueues.{TakerQueueSeat}
-use Rattle.hub_queue.specs.Sweeping.{TakesOfEach, AreSameQueues, AreTaken, IsSwept, IsSweptSoFar, IsSweptOut}
-use Rattle.hub_queue.proofs.Drains.{more_and_more, same_queue}
+use Rattle.hub_queue.specs.TakerQueues.{TakerQueueSeat, IsSettled}
+use Rattle.hub_queue.specs.Sweeping.{TakesOfEach, AreSameQueues, AreTaken, IsSwept, IsSweptSoFar, IsSweptOut, IsWholeChain, put_by, put_known}
+use Rattle.hub_queue.proofs.Chains.{more_and_more, same_queue}
 
 same_queues : (ps : List TakerQueueSeat) → AreSameQueues ps ps
 same_queues [] = tt
@@ -87,3 +90,12 @@ swept_out g h s so_far (end, swept) = record {
   taken = taken_more g.queues h.queues s.queues so_far.more swept.0 so_far.taken swept.2;
   envelopes = swept.1 ∙ ap (λ (l : List Envelope). l ++ swept.0) so_far.envelopes ∙ append_assoc g.envelopes so_far.more swept.0;
 }
+
+-- what was taken of settled queues is all that was put in them
+pub whole_chain : (qs : List TakerQueueSeat) → AllByRecursion IsSettled qs → IsWholeChain qs
+whole_chain [] settled line low = refl
+whole_chain (q ∷ qs) settled line low =
+    let known = settled.0.each line low.0 in
+    let here : by line q.at.got ≡ put_by line q = known.3 ∙ ap put_known (sym known.1) in
+    ap (by line) (flat_map-cons (λ (p : TakerQueueSeat). p.at.got) q qs) ∙ filter-append _ q.at.got (got_from qs)
+    ∙ (λ i. here i ++ whole_chain qs settled.1 line low.1 i)

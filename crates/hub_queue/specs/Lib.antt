@@ -1,6 +1,5 @@
 pub mod Adopting
 pub mod Counting
-pub mod Draining
 pub mod Ending
 pub mod Graves
 pub mod Left

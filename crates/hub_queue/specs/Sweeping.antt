@@ -1,13 +1,15 @@
 -- What a sweep of a closed end comes to.
-use Rattle.std.specs.Prelude.{◌≡◌, ◌⊎◌, ◌+◌, Bool, List, [], ◌∷◌, ◌++◌, count_by, Result, Ok, Err}
+use Rattle.std.specs.Prelude.{◌≡◌, ◌⊎◌, ℕ, ◌+◌, ◌<◌, Bool, List, [], ◌∷◌, ◌++◌, map, count_by, slice_get, Option, Some, None, Result, Ok, Err}
 use Rattle.std.specs.List.{AllByRecursion}
 use Rattle.hub_envelope.specs.declared.envelope.Envelope.{Envelope}
+use Rattle.hub_core.specs.Sender.{by}
+use Rattle.hub_queue.specs.declared.pass_view.PutView.{PutView}
 use Rattle.hub_queue.specs.declared.grave.Sweep.{Sweep}
 use Rattle.hub_queue.specs.declared.grave.Sweep.TheVariants.{Discarded, StillInside, NoRoom}
 use Rattle.hub_queue.specs.declared.settling.Stop.{Stop}
 use Rattle.hub_queue.specs.declared.settling.Stop.TheVariants as stop
 use Rattle.hub_queue.specs.Graves.{GraveSeat, SweptSeat}
-use Rattle.hub_queue.specs.Laws.{got_from}
+use Rattle.hub_queue.specs.Laws.{got_from, joined}
 use Rattle.hub_queue.specs.TakerQueues.{TakerQueueSeat, TakesMore, IsHeldUp, IsSettled}
 
 -- the same queues, one for one; what was taken more of each, joined in their order, is this
@@ -62,3 +64,15 @@ pub record IsSweptOut (g : GraveSeat) (s : SweptSeat) : Type 0 where
   pub more : List Envelope
   pub taken : AreTaken g.queues s.queues more
   pub envelopes : s.envelopes ≡ g.envelopes ++ more
+
+abbrev pub put_known : Option PutView → List Envelope
+put_known (Some k) = k.put
+put_known None = []
+
+-- what the line has put in a queue, as its pass told it
+abbrev pub put_by : ℕ → TakerQueueSeat → List Envelope
+put_by line q = put_known (slice_get q.at.known line)
+
+-- For each line of these queues: what was taken of all of them, joined, is all that the line has put in them, joined.
+abbrev pub IsWholeChain : List TakerQueueSeat → Type 0
+IsWholeChain qs = (line : ℕ) → AllByRecursion (λ q. line < q.at.lines) qs → by line (got_from qs) ≡ joined (map (put_by line) qs)

@@ -1,5 +1,6 @@
--- The points to which a post comes, as a watch is told of them.
-use Rattle.std.specs.Prelude.{ℕ, zero, suc, List, [], ◌∷◌, ◌++◌, nat_lt, if◌then◌else◌, Option, Some, None, Result, Ok, Err}
+-- The points to which a post comes, as one is told of them.
+use Rattle.std.specs.Prelude.{ℕ, zero, suc, List, [], ◌∷◌, ◌++◌, nat_lt, if◌then◌else◌, Option, Result, Ok, Err}
+use Rattle.std.specs.Option.{option_map}
 use Rattle.hub_envelope.specs.declared.limits.TheConstants.{MAX_HOPS}
 use Rattle.hub_depot.specs.declared.key.Key.{Key}
 use Rattle.hub_envelope.specs.declared.envelope.Draft.{Draft}
@@ -14,8 +15,7 @@ use Rattle.hub_queue.specs.Yards.{hops_between}
 
 -- these points more were told, where what was told is shown
 abbrev pub told_more : Option (List Point) → List Point → Option (List Point)
-told_more None more = None
-told_more (Some points) more = Some (points ++ more)
+told_more told more = option_map (λ points. points ++ more) told
 
 -- of a line that was let in
 abbrev pub points_inside : List Point

@@ -15,9 +15,10 @@ use crate::opening::open_taker_queue;
 use crate::stand::Stand;
 use crate::taker_queue::TakerQueue;
 use hub_bell::Bell;
-use hub_depot::{DepotError, Key, Named, Shelf, put_all};
+use hub_depot::{DepotError, Kept, Key, Named, put_all};
 use hub_envelope::{EndId, LineId, OutOfMemory};
 use hub_gate::Entry;
+use hub_locked::Lends;
 use std::alloc::Global;
 use std::sync::Wait;
 
@@ -61,9 +62,9 @@ pub(crate) fn onwards_at(
 
 /// A new queue of the end, whose onward posters lie in the yard. After an error nothing is left of
 /// it, and the yard keeps what it kept.
-pub(crate) fn open_next<S: Shelf<Onward>, R: Wait>(
+pub(crate) fn open_next<L: Lends<Kept<Onward>>, R: Wait>(
     rt: &R,
-    yard: &mut S,
+    yard: &mut L,
     alloc: Global,
     end: EndId,
     epoch: u32,
@@ -73,15 +74,15 @@ pub(crate) fn open_next<S: Shelf<Onward>, R: Wait>(
     requires lines { (0 < lines) × (lines ≤ MAX_LINES) }
     requires moves { epoch ≤ MAX_MOVES }
     ensures ok { IfOk result (λ queue. IsNewTakerQueue end.0 epoch lines queue) }
-    ensures laid { IfOk result (λ queue. S.shown yard.new ≡ option_map (λ kept.
+    ensures laid { IfOk result (λ queue. L.shown yard.new ≡ option_map (λ kept.
         with_all ⟦<Onward as Named>⟧.name kept
-        (stands_at queue.keeper.gate queue.queue end epoch lines)) (S.shown yard.old)) }
-    ensures free { OnOk result (IfSome (S.shown yard.old) (λ kept.
+        (stands_at queue.keeper.gate queue.queue end epoch lines)) (L.shown yard.old)) }
+    ensures free { OnOk result (IfSome (L.shown yard.old) (λ kept.
         ¬ KeepsName end epoch lines kept)) }
     ensures err { IfErr result IsRefused }
     ensures taken { IsErrOf result AdoptError.Taken
-        → IfSome (S.shown yard.old) (KeepsName end epoch lines) }
-    ensures kept { OnErr result (S.shown yard.new ≡ S.shown yard.old) }
+        → IfSome (L.shown yard.old) (KeepsName end epoch lines) }
+    ensures kept { OnErr result (L.shown yard.new ≡ L.shown yard.old) }
 {
     let Ok((queue, entries)) = open_taker_queue(alloc, end, epoch, lines) else {
         return Err(AdoptError::OutOfMemory);

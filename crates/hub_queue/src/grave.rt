@@ -91,7 +91,7 @@ fn empty_all<R: Wait>(
 
 impl Grave {
     ghost use Rattle.std.specs.Prelude.{IfOk, IfErr};
-    ghost use Rattle.hub_queue.specs.Sweeping.{IsSwept, IsSweptOut, IsSweptSoFar};
+    ghost use Rattle.hub_queue.specs.Sweeping.{IsSwept, IsSweptOut, IsSweptSoFar, IsWholeChain};
 
     /// The end that was closed.
     pub fn end(&self) -> EndId
@@ -159,8 +159,12 @@ impl Grave {
 
     /// Sweeps the closed end again and again while somebody is inside, and yields in between. Where
     /// there was no memory for what is left, the grave comes back with what was collected.
+    ///
+    /// Once all is swept, what was taken and discarded of all its queues, joined, is line by line
+    /// all that was put in them.
     pub fn sweep_out<R: Wait>(self, rt: &R) -> Result<Swept, Grave>
         ensures ok { IfOk result (IsSweptOut self) }
+        ensures chain { IfOk result (λ s. IsWholeChain s.queues) }
         ensures err { IfErr result (IsSweptSoFar self) }
     {
         let mut grave = self;

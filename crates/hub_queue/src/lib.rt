@@ -9,7 +9,6 @@
 
 mod adopt_error;
 mod adopting;
-mod draining;
 mod ends;
 mod grave;
 mod laws;
@@ -39,7 +38,6 @@ mod taker_queue;
 mod took;
 
 pub use adopt_error::AdoptError;
-pub use draining::{Drained, Rest};
 pub use ends::Ends;
 pub use grave::{Grave, Sweep};
 pub use hub_bell::{Bell, Listener};
@@ -52,7 +50,7 @@ pub use line_right::LineRight;
 pub use mailbox::Mailbox;
 pub use meeting::{Meeting, meet};
 pub use onward::Onward;
-pub use pause::{NoPause, Pause, Point, Watch};
+pub use pause::{NoPause, Pause, Point};
 pub use post_error::PostError;
 pub use poster::Poster;
 pub use shut_queue::ShutQueue;

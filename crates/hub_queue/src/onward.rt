@@ -8,7 +8,8 @@ ghost use Rattle.hub_queue.specs.Posting.{name_after};
 ghost use Rattle.hub_queue.specs.Standing.{IsNext};
 
 use crate::stand::Stand;
-use hub_depot::{Key, Named, Shelf};
+use hub_depot::{Kept, Key, Named, take_in};
+use hub_locked::Lends;
 use std::marker::Model;
 use std::sync::Wait;
 
@@ -43,24 +44,24 @@ impl Named for Onward {
 }
 
 /// Takes from the yard the stand of the line at the next queue of its end.
-pub(crate) fn next_stand<S: Shelf<Onward>, R: Wait>(
+pub(crate) fn next_stand<L: Lends<Kept<Onward>>, R: Wait>(
     rt: &R,
-    yard: &mut S,
+    yard: &mut L,
     name: Key,
 ) -> Option<Stand>
     requires { name.epoch ≤ MAX_MOVES }
     ensures next { IfSome result (IsNext name) }
-    ensures found { IfSome (S.shown yard.old) (λ kept. result ≡ map.get kept (name_after name 1)) }
-    ensures rest { S.shown yard.new
-        ≡ option_map (λ kept. map.remove kept (name_after name 1)) (S.shown yard.old) }
-    ensures none { IfNone result (S.shown yard.new ≡ S.shown yard.old) }
+    ensures found { IfSome (L.shown yard.old) (λ kept. result ≡ map.get kept (name_after name 1)) }
+    ensures rest { L.shown yard.new
+        ≡ option_map (λ kept. map.remove kept (name_after name 1)) (L.shown yard.old) }
+    ensures none { IfNone result (L.shown yard.new ≡ L.shown yard.old) }
 {
     let next = Key {
         end: name.end,
         epoch: name.epoch + 1,
         line: name.line,
     };
-    let Onward { stand } = yard.take(rt, next)?;
+    let Onward { stand } = take_in(rt, yard, next)?;
     let _name = stand.name;
     Some(stand)
 }

@@ -1,9 +1,6 @@
 //! The points of a post, at which a test may hold it up.
 
-ghost use Rattle.std.specs.Prelude.{◌≡◌, ◌∷◌, [], List, Option};
-ghost use Rattle.hub_queue.specs.Watching.{told_more};
-ghost use Rattle.hub_queue.specs.declared.pause.Point.{Point as PointValue};
-
+use hub_locked::Hears;
 use std::sync::Wait;
 
 /// Where a post may be held up, in the order in which it comes there.
@@ -32,25 +29,17 @@ impl Pause for NoPause {
     fn at<R: Wait>(&self, _rt: &R, _point: Point) {}
 }
 
-/// Who is told of each point to which a post comes: a shared pause, or a list of one's own.
-///
-/// A post is proved once for both. Of a watch that shows what it was told its contract is exact.
-pub trait Watch {
-    /// The points that it was told of, in order, or `None` where it doesn't show them.
-    ghost told: { Self → Option (List PointValue) };
+/// A pause, which hears of the points to which a post comes. It shows nothing, since a pause is
+/// shared.
+#[derive(Drop)]
+pub(crate) struct Paused<'p, P>(pub(crate) &'p P);
 
-    /// A post has come to this point. It may wait.
-    fn reach<R: Wait>(&mut self, rt: &R, point: Point)
-        ensures { told self.new ≡ told_more (told self.old) (point ∷ []) };
-}
-
-/// It shows nothing, since a pause is shared.
-impl<P: Pause> Watch for &P {
+impl<P: Pause> Hears<Point> for Paused<'_, P> {
     ghost use Rattle.std.specs.Prelude.{None};
 
     ghost told = { λ _. None };
 
-    fn reach<R: Wait>(&mut self, rt: &R, point: Point) {
-        self.at(rt, point);
+    fn tell<R: Wait>(&mut self, rt: &R, done: Point) {
+        self.0.at(rt, done);
     }
 }

@@ -5,11 +5,12 @@ ghost use Rattle.hub_queue.specs.Watching.{points_of, told_more};
 ghost use Rattle.hub_queue.specs.Yards.{IsHoppedOver};
 
 use crate::onward::Onward;
-use crate::pause::{NoPause, Pause, Watch};
+use crate::pause::{NoPause, Pause, Paused, Point};
 use crate::post_error::PostError;
 use crate::stand::Stand;
-use hub_depot::{Depot, Key, Shelf};
+use hub_depot::{Depot, Kept, Key};
 use hub_envelope::{Draft, Posted};
+use hub_locked::{Hears, Lends};
 use std::marker::Model;
 use std::sync::Wait;
 
@@ -66,30 +67,30 @@ impl Poster {
         ensures posted { IsPosted self.old self.new draft result }
         ensures rung { HasRung self.old self.new result }
     {
-        let (mut yard, mut pause) = (yard, pause);
-        self.post_on(rt, &mut yard, draft, &mut pause)
+        let (mut lender, mut heard) = (yard.lock(), Paused(pause));
+        self.post_on(rt, &mut lender, draft, &mut heard)
     }
 
-    /// The same, over any shelf as the yard, and told to any watch.
+    /// The same, over a yard that anybody lends, and told to anybody.
     ///
-    /// Of a shelf that shows what it keeps: the line takes out of it the stands at the queues that
-    /// it goes on to, and no other. `Moving` comes after `MAX_HOPS` of them, or where the shelf has
+    /// Of a yard that is shown: the line takes out of it the stands at the queues that
+    /// it goes on to, and no other. `Moving` comes after `MAX_HOPS` of them, or where the yard has
     /// no stand for the next queue.
     #[inline(always)]
-    pub fn post_on<S: Shelf<Onward>, W: Watch, R: Wait>(
+    pub fn post_on<L: Lends<Kept<Onward>>, H: Hears<Point>, R: Wait>(
         &mut self,
         rt: &R,
-        yard: &mut S,
+        yard: &mut L,
         draft: Draft,
-        watch: &mut W,
+        heard: &mut H,
     ) -> Result<Posted, (PostError, Draft)>
         ensures posted { IsPosted self.old self.new draft result }
         ensures rung { HasRung self.old self.new result }
-        ensures yard { IsHoppedOver (S.shown yard.old) (S.shown yard.new)
+        ensures yard { IsHoppedOver (L.shown yard.old) (L.shown yard.new)
             self.old.name self.new result }
-        ensures told { W.told watch.new
-            ≡ told_more (W.told watch.old) (points_of self.old.name self.new.name result) }
+        ensures told { H.told heard.new
+            ≡ told_more (H.told heard.old) (points_of self.old.name self.new.name result) }
     {
-        self.stand.post(rt, yard, draft, watch)
+        self.stand.post(rt, yard, draft, heard)
     }
 }

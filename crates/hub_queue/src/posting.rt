@@ -11,13 +11,14 @@ ghost use Rattle.hub_queue.specs.Yards.{IsHoppedOver, hops_between};
 
 use crate::line_right::LineRight;
 use crate::onward::{Onward, next_stand};
-use crate::pause::{Point, Watch};
+use crate::pause::Point;
 use crate::post_error::PostError;
 use crate::stand::Stand;
 use hub_bell::Bell;
-use hub_depot::{Key, Shelf};
+use hub_depot::{Kept, Key};
 use hub_envelope::{Draft, MAX_HOPS, Posted};
 use hub_gate::{Entered, Entry, Inside, Refusal};
+use hub_locked::{Hears, Lends};
 use std::sync::Wait;
 
 /// What became of a post at the queue where the line stands.
@@ -33,24 +34,24 @@ pub(crate) enum Tried {
 // rings the bell. It is inlined, and so are `Stand::post` and `LineRight::put`, since drafts and
 // answers are large and each call copies them.
 #[inline(always)]
-fn post_inside<W: Watch, R: Wait>(
+fn post_inside<H: Hears<Point>, R: Wait>(
     rt: &R,
     mut inside: Inside<LineRight>,
     name: Key,
     kept: &mut Option<Entry<LineRight>>,
     bell: &mut Bell,
     draft: Draft,
-    watch: &mut W,
+    heard: &mut H,
 ) -> Result<Posted, (PostError, Draft)>
     requires name { IsNameOf inside.right.at name }
     requires tag { tag_of inside.right ≡ inside.at.tag }
     ensures put { IsPutInside inside kept.new draft result }
     ensures rung { IsRungWhere bell.old.at bell.new.at name.end (entry_in kept.new).at.left }
-    ensures told { W.told watch.new ≡ told_more (W.told watch.old) points_inside }
+    ensures told { H.told heard.new ≡ told_more (H.told heard.old) points_inside }
 {
-    watch.reach(rt, Point::Inside);
+    heard.tell(rt, Point::Inside);
     let put = inside.right_mut().put(rt, name, draft);
-    watch.reach(rt, Point::Pushed);
+    heard.tell(rt, Point::Pushed);
     let (entry, enabled) = inside.leave();
     *kept = Some(entry);
     if enabled {
@@ -64,16 +65,16 @@ fn post_inside<W: Watch, R: Wait>(
 
 impl Stand {
     // Posts at the queue where the line stands.
-    fn try_post<W: Watch, R: Wait>(&mut self, rt: &R, draft: Draft, watch: &mut W) -> Tried
+    fn try_post<H: Hears<Point>, R: Wait>(&mut self, rt: &R, draft: Draft, heard: &mut H) -> Tried
         ensures tried { IsTried self.old self.new draft result }
         ensures rung { RingsTried self.old self.new result }
-        ensures told { W.told watch.new ≡ told_more (W.told watch.old) (points_tried result) }
+        ensures told { H.told heard.new ≡ told_more (H.told heard.old) (points_tried result) }
     {
-        watch.reach(rt, Point::Before);
+        heard.tell(rt, Point::Before);
         let (name, bell) = (self.name, &mut self.bell);
         match self.entry.take().unwrap().enter() {
             Entered::In(inside) => {
-                let answer = post_inside(rt, inside, name, &mut self.entry, bell, draft, watch);
+                let answer = post_inside(rt, inside, name, &mut self.entry, bell, draft, heard);
                 Tried::Answered(answer)
             }
             Entered::Turned(entry, refusal) => {
@@ -87,29 +88,29 @@ impl Stand {
     /// retired, at most `MAX_HOPS` times.
     // It doesn't call `try_post`, since what that comes to would be copied once more.
     #[inline(always)]
-    pub(crate) fn post<S: Shelf<Onward>, W: Watch, R: Wait>(
+    pub(crate) fn post<L: Lends<Kept<Onward>>, H: Hears<Point>, R: Wait>(
         &mut self,
         rt: &R,
-        yard: &mut S,
+        yard: &mut L,
         draft: Draft,
-        watch: &mut W,
+        heard: &mut H,
     ) -> Result<Posted, (PostError, Draft)>
         ensures posted { IsPosted self.old self.new draft result }
         ensures rung { HasRung self.old self.new result }
-        ensures yard { IsHoppedOver (S.shown yard.old) (S.shown yard.new)
+        ensures yard { IsHoppedOver (L.shown yard.old) (L.shown yard.new)
             self.old.name self.new result }
-        ensures told { W.told watch.new
-            ≡ told_more (W.told watch.old) (points_of self.old.name self.new.name result) }
+        ensures told { H.told heard.new
+            ≡ told_more (H.told heard.old) (points_of self.old.name self.new.name result) }
     {
-        watch.reach(rt, Point::Before);
+        heard.tell(rt, Point::Before);
         let (name, bell) = (self.name, &mut self.bell);
         match self.entry.take().unwrap().enter() {
             Entered::In(inside) => {
-                post_inside(rt, inside, name, &mut self.entry, bell, draft, watch)
+                post_inside(rt, inside, name, &mut self.entry, bell, draft, heard)
             }
             Entered::Turned(entry, refusal) => {
                 self.entry = Some(entry);
-                self.post_onward(rt, yard, refusal, draft, watch)
+                self.post_onward(rt, yard, refusal, draft, heard)
             }
         }
     }
@@ -117,19 +118,19 @@ impl Stand {
     // Goes on from where the line was turned. It isn't inlined, so that a post at the queue where
     // its line stands doesn't pay for it.
     #[inline(never)]
-    fn post_onward<S: Shelf<Onward>, W: Watch, R: Wait>(
+    fn post_onward<L: Lends<Kept<Onward>>, H: Hears<Point>, R: Wait>(
         &mut self,
         rt: &R,
-        yard: &mut S,
+        yard: &mut L,
         refusal: Refusal,
         draft: Draft,
-        watch: &mut W,
+        heard: &mut H,
     ) -> Result<Posted, (PostError, Draft)>
         ensures posted { IsPostedOnward self.old self.new refusal draft result }
         ensures rung { RingsOnward self.new result }
-        ensures yard { IsHoppedOver (S.shown yard.old) (S.shown yard.new)
+        ensures yard { IsHoppedOver (L.shown yard.old) (L.shown yard.new)
             self.old.name self.new result }
-        ensures told { W.told watch.new ≡ told_more (W.told watch.old)
+        ensures told { H.told heard.new ≡ told_more (H.told heard.old)
             (points_onward (hops_between self.old.name self.new.name) result) }
     {
         let mut found = refusal;
@@ -138,12 +139,12 @@ impl Stand {
             if found == Refusal::Closed {
                 return Err((PostError::Closed, draft));
             }
-            watch.reach(rt, Point::Hopping);
+            heard.tell(rt, Point::Hopping);
             let Some(next) = next_stand(rt, yard, self.name) else {
                 return Err((PostError::Moving, draft));
             };
             self.go_to(next);
-            match self.try_post(rt, draft, watch) {
+            match self.try_post(rt, draft, heard) {
                 Tried::Answered(answer) => return answer,
                 Tried::Turned(refusal, back) => {
                     found = refusal;

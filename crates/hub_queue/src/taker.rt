@@ -15,8 +15,9 @@ use crate::steps::Steps;
 use crate::taker_queue::TakerQueue;
 use crate::took::Took;
 use hub_bell::Bell;
-use hub_depot::{Depot, Shelf};
+use hub_depot::{Depot, Kept};
 use hub_envelope::{EndId, MAX_MOVES};
+use hub_locked::Lends;
 use std::alloc::Global;
 use std::collections::VecDeque;
 use std::marker::Model;
@@ -174,25 +175,25 @@ impl Taker {
     ) -> Result<Taker, (AdoptError, Taker)>
         ensures { IsAdopted self result }
     {
-        let mut yard = yard;
-        self.adopt_on(rt, &mut yard, bell)
+        let mut lender = yard.lock();
+        self.adopt_on(rt, &mut lender, bell)
     }
 
-    /// The same, over any shelf as the yard. Of a shelf that shows what it keeps, `Taken` comes
+    /// The same, over a yard that anybody lends. Of one that is shown, `Taken` comes
     /// only where it keeps a poster under a name of the new queue.
-    pub fn adopt_on<S: Shelf<Onward>, R: Wait>(
+    pub fn adopt_on<L: Lends<Kept<Onward>>, R: Wait>(
         mut self,
         rt: &R,
-        yard: &mut S,
+        yard: &mut L,
         bell: Bell,
     ) -> Result<Taker, (AdoptError, Taker)>
         ensures adopted { IsAdopted self result }
-        ensures laid { IfOk result (λ taker. S.shown yard.new
-            ≡ option_map (with_onwards taker) (S.shown yard.old)) }
-        ensures free { OnOk result (IfSome (S.shown yard.old) (λ kept. ¬ KeepsNext self kept)) }
+        ensures laid { IfOk result (λ taker. L.shown yard.new
+            ≡ option_map (with_onwards taker) (L.shown yard.old)) }
+        ensures free { OnOk result (IfSome (L.shown yard.old) (λ kept. ¬ KeepsNext self kept)) }
         ensures taken { IfErr result (λ refused. refused.0 ≡ AdoptError.Taken
-            → IfSome (S.shown yard.old) (KeepsNext self)) }
-        ensures kept { OnErr result (S.shown yard.new ≡ S.shown yard.old) }
+            → IfSome (L.shown yard.old) (KeepsNext self)) }
+        ensures kept { OnErr result (L.shown yard.new ≡ L.shown yard.old) }
     {
         let moves = self.epoch + self.behind();
         if moves == MAX_MOVES {

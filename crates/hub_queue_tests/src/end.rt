@@ -2,11 +2,10 @@
 //!
 //! A function that itself lets a taker or a grave go costs some seconds of the check, so each is
 //! handed to `drop`.
-use crate::parts::take;
 use hub_depot::Depot;
 use hub_envelope::EndId;
 use hub_queue::{AdoptError, Grave, Onward, Sweep, Swept, Taker, Took};
-use hub_test_parts::{bell, is_message};
+use hub_test_parts::{bell, is_message, take};
 use std::alloc::Global;
 use std::mem::replace;
 use std::sync::Wait;

@@ -1,14 +1,10 @@
-//! What the tests make their mailboxes of, posts and takes.
-ghost use Rattle.std.specs.Prelude.{◌≡◌};
-
+//! What the tests make their mailboxes of, and posts.
 use hub_depot::Depot;
 use hub_envelope::{EndId, MAX_LINES};
-use hub_queue::{Mailbox, Onward, PostError, Poster, Steps, Taker, Took};
+use hub_queue::{Mailbox, Onward, PostError, Poster, Taker};
 use hub_test_parts::{bell, post};
 use std::alloc::{AllocError, Global};
-use std::marker::Brand;
 use std::sync::Wait;
-use std::sync::ledger::{Blank, Ledger};
 
 fn try_open(alloc: Global, lines: u8) -> Option<(Taker, Poster)> {
     if lines == 0 || lines as usize > MAX_LINES {
@@ -66,16 +62,4 @@ pub(crate) fn are_all_so(ended: Result<Vec<bool>, AllocError>) -> bool {
         Ok(ended) => !ended.as_slice().contains(&false),
         Err(_) => false,
     }
-}
-
-fn take_counted<L: Ledger, R: Wait>(rt: &R, taker: &mut Taker, blank: Blank) -> Took
-    requires { (blank.name ≡ L.name) × (blank.parts ≡ L.parts) × (L.parts ≡ 2) }
-{
-    let mut steps = Steps::<L>::begin(blank);
-    taker.take(rt, &mut steps)
-}
-
-/// Takes once, with a count of pops of its own.
-pub(crate) fn take<R: Wait>(rt: &R, taker: &mut Taker) -> Took {
-    take_counted::<Brand, R>(rt, taker, Blank::new(2))
 }

@@ -1,8 +1,8 @@
-use crate::parts::{accepts, are_all_so, take};
+use crate::parts::{accepts, are_all_so};
 use hub_depot::Depot;
 use hub_envelope::{EndId, Envelope};
 use hub_queue::{Mailbox, Onward, Poster, Taker, Took};
-use hub_test_parts::bell;
+use hub_test_parts::{bell, take};
 use std::alloc::Global;
 use std::sync::{Mutex, Wait};
 use std::thread;

@@ -28,10 +28,11 @@ ghost use Rattle.hub_trace.specs.declared.limits.TheConstants.{MAX_AGENT};
 
 use crate::growing::push;
 use hub_agent::{Agent, Peer, Seat, Shared};
-use hub_broadcast::SharedRoster;
+use hub_broadcast::{Roster, SharedRoster};
 use hub_clients::Directory;
 use hub_envelope::{AgentId, OutOfMemory};
 use hub_life::Order;
+use hub_locked::Locked;
 use hub_logging::Scribe;
 use hub_loop::{Checkpoint, Held};
 use hub_ports::channel;
@@ -48,7 +49,7 @@ struct Seats {
 }
 
 /// An agent of a run, which casts over the roster that all of them share.
-pub(crate) type RunAgent<'s, C> = Agent<'s, C, &'s SharedRoster>;
+pub(crate) type RunAgent<'s, C> = Agent<'s, C, &'s Locked<Roster>>;
 
 /// The agents of a run before it begins.
 pub(crate) struct Made<'s, C: Checkpoint> {
@@ -245,6 +246,7 @@ impl<'s, C: Checkpoint> Made<'s, C> {
     fn open(
         alloc: Global,
         shared: &'s Shared,
+        roster: &'s SharedRoster,
         script: &Script,
         checkpoint: &'s C,
     ) -> Result<Made<'s, C>, OutOfMemory>
@@ -258,7 +260,7 @@ impl<'s, C: Checkpoint> Made<'s, C> {
         let mut agents = Vec::new(alloc);
         for seat in seats {
             let kind = declared[agents.len()].kind;
-            let agent = Agent::open(alloc, kind, shared, &shared.roster, checkpoint, seat)?;
+            let agent = Agent::open(alloc, kind, shared, roster.lock(), checkpoint, seat)?;
             push(&mut agents, agent)?;
         }
         Ok(Made {
@@ -333,6 +335,7 @@ impl<'s, C: Checkpoint> Made<'s, C> {
         alloc: Global,
         rt: &R,
         shared: &'s Shared,
+        roster: &'s SharedRoster,
         script: &Script,
         checkpoint: &'s C,
     ) -> Result<Made<'s, C>, OutOfMemory>
@@ -340,10 +343,10 @@ impl<'s, C: Checkpoint> Made<'s, C> {
         ensures given { IfOk result (λ made. AreGiven script.now made.agents.items) }
         ensures seated { IfOk result (λ made. AreAllSeated made.agents.items) }
     {
-        let mut made = Made::open(alloc, shared, script, checkpoint)?;
+        let mut made = Made::open(alloc, shared, roster, script, checkpoint)?;
         made.add_queues(rt, shared, script)?;
         made.add_channels(alloc, script)?;
-        made.add_members(alloc, rt, &shared.roster, script)?;
+        made.add_members(alloc, rt, roster, script)?;
         Ok(made)
     }
 }

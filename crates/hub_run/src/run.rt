@@ -13,6 +13,7 @@ ghost use Rattle.hub_trace.specs.declared.limits.TheConstants.{MAX_AGENT};
 use crate::growing::push;
 use crate::making::{Made, RunAgent};
 use hub_agent::{Acted, AgentRun, Shared};
+use hub_broadcast::SharedRoster;
 use hub_envelope::{AgentId, OutOfMemory};
 use hub_loop::Checkpoint;
 use hub_script::Script;
@@ -119,6 +120,7 @@ fn run_shared<C: Checkpoint + Sync, R: Threads + Wait + Sync>(
     alloc: Global,
     rt: &R,
     shared: &Shared,
+    roster: &SharedRoster,
     script: &Script,
     checkpoint: &C,
 ) -> Result<Run, OutOfMemory>
@@ -129,7 +131,7 @@ fn run_shared<C: Checkpoint + Sync, R: Threads + Wait + Sync>(
         logs: Vec::with_capacity(alloc, count)?,
         acted: Vec::with_capacity(alloc, count)?,
     };
-    let made = Made::of_script(alloc, rt, shared, script, checkpoint)?.into_agents();
+    let made = Made::of_script(alloc, rt, shared, roster, script, checkpoint)?.into_agents();
     let started = OnceLock::new();
     let begun = &started;
     thread::scope(
@@ -167,8 +169,8 @@ pub fn run_agents<C: Checkpoint + Sync, R: Threads + Wait + Sync>(
 ) -> Result<Run, OutOfMemory>
     ensures { IfOk result (λ run. AreRunsFor script.now run.logs.items run.acted.items) }
 {
-    let shared = Shared::new(alloc);
-    let ran = run_shared(alloc, rt, &shared, script, checkpoint);
+    let (shared, roster) = (Shared::new(alloc), SharedRoster::new(alloc));
+    let ran = run_shared(alloc, rt, &shared, &roster, script, checkpoint);
     let ended = shared.end(rt);
     let run = ran?;
     ended?;

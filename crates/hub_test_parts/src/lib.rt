@@ -1,10 +1,14 @@
-//! What the crates of tests share: bells, bodies and drafts, posts, and whether an envelope is the
-//! right one. What is made is made again where an allocation was refused, since the next one has
-//! the memory.
+//! What the crates of tests share: bells, bodies and drafts, posts, whether an envelope is the
+//! right one, takes, and loops whose handlers keep what is delivered. What is made is made again
+//! where an allocation was refused, since the next one has the memory.
 #![tactic(auto)]
 
 mod making;
+mod note;
 mod posting;
+mod taking;
 
 pub use making::{bell, body, draft};
+pub use note::{Delivered, Loop, Note, open_loop};
 pub use posting::{Posting, is_message, post, post_with};
+pub use taking::{Takes, release_port, take, turn};

@@ -1,10 +1,10 @@
 //! Joins and casts of which each allocation is refused in turn.
-use crate::broadcast::parts::{NO_PORTS, is_first, take, try_join};
+use crate::broadcast::parts::{NO_PORTS, is_first, try_join};
 use hub_broadcast::{CastError, CastOutcome, JoinError, Member, Roster};
 use hub_depot::Depot;
 use hub_envelope::EndId;
 use hub_queue::{Ends, Onward, Took};
-use hub_test_parts::body;
+use hub_test_parts::{body, take};
 use std::alloc::Global;
 use std::sync::Wait;
 use std::test::Fail;

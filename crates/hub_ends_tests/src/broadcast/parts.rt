@@ -1,14 +1,10 @@
 //! What the tests make their members of, and the calls that they make.
-ghost use Rattle.std.specs.Prelude.{◌≡◌};
-
 use hub_broadcast::{JoinError, Member, Origin, Roster, origin_of};
 use hub_envelope::{AgentId, EndId};
-use hub_queue::{Ends, Steps, Took};
+use hub_queue::{Ends, Took};
 use hub_test_parts::bell;
 use std::alloc::Global;
-use std::marker::Brand;
 use std::sync::Wait;
-use std::sync::ledger::{Blank, Ledger};
 
 /// The list of a cast that may be made.
 pub(crate) const NO_PORTS: [EndId; 0] = [];
@@ -20,7 +16,7 @@ fn try_key(alloc: Global) -> Option<(Origin, String)> {
 }
 
 // The origin and the name of all members. They are made again where an allocation was refused.
-fn key(alloc: Global) -> Option<(Origin, String)> {
+pub(crate) fn key(alloc: Global) -> Option<(Origin, String)> {
     match try_key(alloc) {
         Some(key) => Some(key),
         None => try_key(alloc),
@@ -35,18 +31,6 @@ pub(crate) fn try_join(
 ) -> Option<Result<Member, JoinError>> {
     let (origin, name) = key(alloc)?;
     Some(roster.join(ends, AgentId(7), origin, name, bell(alloc)?))
-}
-
-fn take_counted<L: Ledger, R: Wait>(rt: &R, member: &mut Member, blank: Blank) -> Took
-    requires { (blank.name ≡ L.name) × (blank.parts ≡ L.parts) × (L.parts ≡ 2) }
-{
-    let mut steps = Steps::<L>::begin(blank);
-    member.take(rt, &mut steps)
-}
-
-/// Takes once, with a count of pops of its own.
-pub(crate) fn take<R: Wait>(rt: &R, member: &mut Member) -> Took {
-    take_counted::<Brand, R>(rt, member, Blank::new(2))
 }
 
 /// Whether the take gave the first envelope of the line, of this agent and text and without ports.

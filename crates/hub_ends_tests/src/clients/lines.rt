@@ -1,10 +1,10 @@
 //! Lines that the directory lends, where step files can't show them.
-use crate::clients::parts::{client, lost_line, take, worker};
+use crate::clients::parts::{client, lost_line, worker};
 use hub_clients::{ClientQueue, Directory, DirectoryError, WorkerQueue};
 use hub_depot::Depot;
 use hub_envelope::{EndId, MAX_LINES};
 use hub_queue::{Ends, Mailbox, Onward, PostError, Poster, Took};
-use hub_test_parts::{Posting, bell, is_message, post};
+use hub_test_parts::{Posting, bell, is_message, post, take};
 use std::alloc::Global;
 use std::sync::Wait;
 
@@ -98,14 +98,14 @@ fn close(queue: Option<ClientQueue>) -> bool {
     }
 }
 
-// Whether the queues 3 and 1, made in this order, are found each under its number.
+// Whether the queues 7 and 1, made in this order, are found each under its number.
 fn finds_each<R: Wait>(rt: &R, alloc: Global, directory: &Directory) -> bool {
-    let third = client(rt, alloc, directory, &mut Ends { drawn: 3 });
+    let seventh = client(rt, alloc, directory, &mut Ends { drawn: 7 });
     let first = worker(rt, alloc, directory, &mut Ends { drawn: 1 });
     let is_posted = matches!(post_at(rt, alloc, directory, 1), Some(Ok((0, 0))));
     let is_taken = takes_first(rt, first);
-    let is_closed = close(third);
-    let refused = post_at(rt, alloc, directory, 3);
+    let is_closed = close(seventh);
+    let refused = post_at(rt, alloc, directory, 7);
     let is_missing = matches!(lost_line(rt, directory, 2), Err(DirectoryError::NoSuchEnd));
     is_posted
         && is_taken

@@ -1,14 +1,10 @@
-//! What the tests make their queues of, and takes.
-ghost use Rattle.std.specs.Prelude.{◌≡◌};
-
+//! What the tests make their queues of.
 use hub_clients::{ClientQueue, Directory, DirectoryError, WorkerQueue};
 use hub_envelope::EndId;
-use hub_queue::{Ends, Steps, Took};
+use hub_queue::Ends;
 use hub_test_parts::bell;
 use std::alloc::Global;
-use std::marker::Brand;
 use std::sync::Wait;
-use std::sync::ledger::{Blank, Ledger};
 
 /// A client's queue of the next number.
 pub(crate) fn client<R: Wait>(
@@ -44,16 +40,4 @@ pub(crate) fn lost_line<R: Wait>(
         }
         Err(error) => Err(error),
     }
-}
-
-fn take_counted<L: Ledger, R: Wait>(rt: &R, queue: &mut WorkerQueue, blank: Blank) -> Took
-    requires { (blank.name ≡ L.name) × (blank.parts ≡ L.parts) × (L.parts ≡ 2) }
-{
-    let mut steps = Steps::<L>::begin(blank);
-    queue.take(rt, &mut steps)
-}
-
-/// Takes once, with a count of pops of its own.
-pub(crate) fn take<R: Wait>(rt: &R, queue: &mut WorkerQueue) -> Took {
-    take_counted::<Brand, R>(rt, queue, Blank::new(2))
 }

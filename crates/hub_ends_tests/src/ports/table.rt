@@ -1,11 +1,11 @@
 //! Ports by number, and their hub.
 //!
 //! A function that drops a port costs some seconds of the check, so few do.
-use crate::ports::parts::{are_numbered, entangled, room, take};
+use crate::ports::parts::{are_numbered, entangled, room};
 use hub_envelope::{AgentId, Body};
 use hub_ports::{Hub, Noticed, Port, PortError, Spent};
 use hub_queue::{Ends, Grave, Posted, Took};
-use hub_test_parts::body;
+use hub_test_parts::{body, take};
 use std::alloc::Global;
 use std::mem::replace;
 use std::sync::Wait;

@@ -1,7 +1,7 @@
 use Rattle.std.proofs.Common.{rules, ◌<◌, ◌≤◌, ◌↔◌, Any, IsErrOf}
 use Rattle.hub_envelope.specs.declared.limits.TheConstants.{MAX_ENDS}
 use Rattle.hub_broadcast.specs.declared.join_error.JoinError.TheVariants.{OtherEnds}
-use Rattle.hub_broadcast.proofs.Doing.{called_of}
+use Rattle.hub_locked.proofs.Doing.{called_of}
 use Rattle.hub_broadcast.proofs.lent.join_in.Goals as goal
 
 pub returns-clause-other_ends : goal.returns-clause-other_ends

@@ -1,6 +1,6 @@
 use Rattle.std.proofs.Common.{rules, filter, not}
 use Rattle.hub_broadcast.specs.Destinations.{is_of_end}
-use Rattle.hub_broadcast.proofs.Doing.{done_as}
+use Rattle.hub_locked.proofs.Doing.{done_as}
 use Rattle.hub_broadcast.proofs.lent.leave_in.Goals as goal
 
 pub returns : goal.returns

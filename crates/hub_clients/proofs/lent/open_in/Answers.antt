@@ -1,7 +1,7 @@
 use Rattle.std.proofs.Common.{rules, subst}
-use Rattle.hub_clients.specs.Lending.{IsDoneIn}
+use Rattle.hub_locked.specs.Lending.{IsDoneIn}
 use Rattle.hub_clients.specs.Listings.{ListedSeat, IsListed}
-use Rattle.hub_clients.proofs.Doing.{done_more}
+use Rattle.hub_locked.proofs.Doing.{done_more}
 use Rattle.hub_clients.proofs.InPlace.{opened_posters, listed_is}
 use Rattle.hub_clients.proofs.lent.open_in.Goals as goal
 

@@ -8,4 +8,4 @@ invariant-loop-value g l =
     (goal.iterator-loop-value g).can_next l.value-iterator
     × (goal.iterator-loop-value g).is_finite l.value-iterator
     × (l.fn.values.items ≡ l.yielded ++ into_iter_items l.value-iterator)
-    × IsPut g.V.Named.name (g.S.Shelf.shown l.initial.shelf) (g.S.Shelf.shown l.shelf) l.yielded l.names.items
+    × IsPut g.V.Named.name (g.L.Lends.shown l.initial.lender) (g.L.Lends.shown l.lender) l.yielded l.names.items

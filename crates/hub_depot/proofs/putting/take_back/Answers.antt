@@ -4,10 +4,10 @@ use Rattle.hub_depot.proofs.putting.take_back.Goals as goal
 
 pub loop-name-preserved-in-Some : goal.loop-name-preserved-in-Some
 loop-name-preserved-in-Some g c =
-    taken_back (g.S.Shelf.shown c.loop-name.shelf) (g.S.Shelf.shown c.take.new.self) c.loop-name.names.items c.pop.new.self.items c.in-Some.name c.take.ensures.rest
+    taken_back (g.L.Lends.shown c.loop-name.lender) (g.L.Lends.shown c.take_in.new.lender) c.loop-name.names.items c.pop.new.self.items c.in-Some.name c.take_in.ensures.rest
     c.in-Some.ensures.items ∙ c.loop-name.invariant
 
 pub loop-name-preserved : goal.loop-name-preserved
 loop-name-preserved g c =
-    taken_back (g.S.Shelf.shown c.loop-name.shelf) (g.S.Shelf.shown c.take.new.self) c.loop-name.names.items c.pop.new.self.items c.in-Some.name c.take.ensures.rest
+    taken_back (g.L.Lends.shown c.loop-name.lender) (g.L.Lends.shown c.take_in.new.lender) c.loop-name.names.items c.pop.new.self.items c.in-Some.name c.take_in.ensures.rest
     c.in-Some.ensures.items ∙ c.loop-name.invariant

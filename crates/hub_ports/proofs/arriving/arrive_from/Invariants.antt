@@ -7,7 +7,7 @@ use Rattle.hub_ports.proofs.arriving.arrive_from.Given as goal
 abbrev pub invariant-loop-number : goal.invariant-loop-number
 invariant-loop-number g l = record {
   split : IsSplit (take l.number-index l.numbers) (ends_of l.found.items) l.missing.items;
-  arrived : HaveArrived (g.S.Shelf.shown l.initial.flight) (g.S.Shelf.shown l.flight) (take l.number-index l.numbers) l.found.items l.missing.items;
+  arrived : HaveArrived (g.L.Lends.shown l.initial.flight) (g.L.Lends.shown l.flight) (take l.number-index l.numbers) l.found.items l.missing.items;
   count : vec_len l.found + vec_len l.missing ≡ l.number-index;
   found_room : length l.numbers ≤ vec_capacity l.found;
   missing_room : length l.numbers ≤ vec_capacity l.missing;

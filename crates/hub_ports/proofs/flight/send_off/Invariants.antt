@@ -6,7 +6,7 @@ abbrev pub invariant-loop-port : goal.invariant-loop-port
 invariant-loop-port g l = record {
   stayed : l.ports.items ≡ take (vec_len l.ports) l.fn.ports.items;
   room : vec_len l.fn.ports ≤ vec_capacity l.ports;
-  flown : IfSome (g.S.Shelf.shown l.initial.flight) (λ kept. HaveFlownBehind kept l.fn.ports.items l.ports.items (g.S.Shelf.shown l.flight));
+  flown : IfSome (g.L.Lends.shown l.initial.flight) (λ kept. HaveFlownBehind kept l.fn.ports.items l.ports.items (g.L.Lends.shown l.flight));
 }
 
 abbrev pub decreases-loop-port : goal.decreases-loop-port

@@ -40,7 +40,7 @@ returns-in-Err-post-clause-sent g c =
 pub returns-in-Err-clause-flown : goal.returns-in-Err-clause-flown
 returns-in-Err-clause-flown g c =
     let named = c.as_slice-in-Err.ensures.value ∙ c.in-Ok.ensures ∙ ap ends_of c.as_slice.ensures.value in
-    flown_back (g.S.Shelf.shown c.args.flight.now) _ _ c.args.ports.items c.send_off.new.ports.items c.as_slice-in-Err.result.now c.call_back.new.ports c.call_back.new.missing.items c.in-Err.refusal c.args.body c.refused.result
+    flown_back (g.L.Lends.shown c.args.flight.now) _ _ c.args.ports.items c.send_off.new.ports.items c.as_slice-in-Err.result.now c.call_back.new.ports c.call_back.new.missing.items c.in-Err.refusal c.args.body c.refused.result
     c.send_off.ensures.flown c.call_back.ensures.back named c.refused.ensures.whole
 
 pub returns-in-Err-post-clause-flown : goal.returns-in-Err-post-clause-flown
@@ -48,5 +48,5 @@ returns-in-Err-post-clause-flown g c =
     let back = c.in-Err-post.ensures.posted.4 in
     let listed : c.as_slice-in-Err-post.result.now ≡ c.in-Err-post.draft.ports = c.as_slice-in-Err-post.ensures.listed in
     let named = listed ∙ ap (λ (d : Draft). d.ports) back ∙ c.in-Ok-of_list.ensures.ok ∙ c.in-Ok.ensures ∙ ap ends_of c.as_slice.ensures.value in
-    flown_back (g.S.Shelf.shown c.args.flight.now) _ _ c.args.ports.items c.send_off.new.ports.items c.as_slice-in-Err-post.result.now c.call_back-in-Err-post.new.ports c.call_back-in-Err-post.new.missing.items c.of_line-refusal.result c.in-Err-post.draft.body c.refused-in-Err-post.result
+    flown_back (g.L.Lends.shown c.args.flight.now) _ _ c.args.ports.items c.send_off.new.ports.items c.as_slice-in-Err-post.result.now c.call_back-in-Err-post.new.ports c.call_back-in-Err-post.new.missing.items c.of_line-refusal.result c.in-Err-post.draft.body c.refused-in-Err-post.result
     c.send_off.ensures.flown c.call_back-in-Err-post.ensures.back named c.refused-in-Err-post.ensures.whole

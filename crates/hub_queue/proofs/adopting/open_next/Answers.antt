@@ -12,12 +12,12 @@ returns-in-Ok-put_all-clause-free g c =
     let queue = c.in-Ok.queue in
     let lines = ap (λ t. t.lines) c.in-Ok.ensures.at in
     let stands = c.in-Ok-onwards_at.ensures ∙ ap (stands_at queue.keeper.gate queue.queue c.args.end c.args.epoch) lines in
-    keeps_nothing queue.keeper.gate queue.queue c.args.end c.args.epoch c.args.lines (g.S.Shelf.shown c.args.yard.now) c.in-Ok-onwards_at.onwards.items stands c.in-Ok-put_all.ensures.free
+    keeps_nothing queue.keeper.gate queue.queue c.args.end c.args.epoch c.args.lines (g.L.Lends.shown c.args.yard.now) c.in-Ok-onwards_at.onwards.items stands c.in-Ok-put_all.ensures.free
 
 pub returns-in-Err-Taken-clause-taken : goal.returns-in-Err-Taken-clause-taken
 returns-in-Err-Taken-clause-taken g c = λ is.
     let queue = c.in-Ok.queue in
     let lines = ap (λ t. t.lines) c.in-Ok.ensures.at in
     let stands = c.in-Ok-onwards_at.ensures ∙ ap (stands_at queue.keeper.gate queue.queue c.args.end c.args.epoch) lines in
-    keeps_one queue.keeper.gate queue.queue c.args.end c.args.epoch c.args.lines (g.S.Shelf.shown c.args.yard.now) c.in-Ok-onwards_at.onwards.items c.in-Err-Taken.field-0-0 stands
+    keeps_one queue.keeper.gate queue.queue c.args.end c.args.epoch c.args.lines (g.L.Lends.shown c.args.yard.now) c.in-Ok-onwards_at.onwards.items c.in-Err-Taken.field-0-0 stands
     (c.in-Err-Taken.ensures.taken c.in-Err-Taken.field-0-0 (ap Err c.in-Err-Taken.field-0-is))

@@ -12,7 +12,7 @@ returns-clause-written g c = close_of c.log_closed_end.result c.args.end _ c.sel
 
 pub returns-clause-held : goal.returns-clause-held
 returns-clause-held g c =
-    on_ok c.log_closed_end.result (closed_held c.args.end c.args.self.now _ c.self.inside.event_loop.holding.held c.in-Some.closed (ap (λ (a : AgentState). a.ends) c.self.view_is) c.in-Some.ensures.closed)
+    on_ok c.log_closed_end.result (closed_held c.args.end c.args.self.now _ c.self.inside.event_loop.holding.held _ c.in-Some.closed (ap (λ (a : AgentState). a.ends) c.self.view_is) (ap (λ (a : AgentState). a.roster) c.self.view_is) c.in-Some.ensures.closed)
 
 pub returns-clause-own : goal.returns-clause-own
 returns-clause-own g c =

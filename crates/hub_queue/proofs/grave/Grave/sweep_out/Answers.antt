@@ -1,4 +1,4 @@
-use Rattle.hub_queue.proofs.SweptOut.{not_swept, swept_more, swept_no_room, swept_out}
+use Rattle.hub_queue.proofs.SweptOut.{not_swept, swept_more, swept_no_room, swept_out, whole_chain}
 use Rattle.hub_queue.proofs.grave.Grave.sweep_out.Goals as goal
 
 pub loop-init : goal.loop-init
@@ -12,3 +12,6 @@ returns-in-Discarded-clause-ok g c = swept_out _ _ _ c.loop.invariant c.in-Disca
 
 pub returns-in-NoRoom-clause-err : goal.returns-in-NoRoom-clause-err
 returns-in-NoRoom-clause-err g c = swept_no_room _ _ _ c.loop.invariant c.in-NoRoom.ensures
+
+pub returns-in-Discarded-clause-chain : goal.returns-in-Discarded-clause-chain
+returns-in-Discarded-clause-chain g c = whole_chain _ c.in-Discarded.ensures.1.3

@@ -12,7 +12,7 @@ pub returns-in-In-clause-yard : goal.returns-in-In-clause-yard
 returns-in-In-clause-yard g c = hopped_nowhere _ c.args.self.now.name _ _ _ _ _ (search rules) c.post_inside.ensures.put.4
 
 pub returns-in-In-clause-told : goal.returns-in-In-clause-told
-returns-in-In-clause-told g c = told_here _ _ _ c.args.self.now.name c.self.inside.name _ _ _ _ (search rules) c.post_inside.ensures.put.4 c.reach.ensures c.post_inside.ensures.told
+returns-in-In-clause-told g c = told_here _ _ _ c.args.self.now.name c.self.inside.name _ _ _ _ (search rules) c.post_inside.ensures.put.4 c.tell.ensures c.post_inside.ensures.told
 
 pub returns-in-Turned-clause-posted : goal.returns-in-Turned-clause-posted
 returns-in-Turned-clause-posted g c = is_posted c.args.self.now (record { name = c.self.inside.name; entry = c.in-Turned.entry; rung = c.self.inside.bell.at; left = c.self.inside.left }) c.args.draft c.args.draft c.in-Turned.refusal (search rules) _ _ c.post_onward.ensures.posted
@@ -22,7 +22,7 @@ returns-in-Turned-clause-rung g c = rung_onward c.args.self.now (record { name =
 
 pub returns-in-Turned-clause-yard : goal.returns-in-Turned-clause-yard
 returns-in-Turned-clause-yard g c =
-    subst (λ (k : Key). IsHoppedOver (g.S.Shelf.shown c.args.yard.now) (g.S.Shelf.shown c.post_onward.new.yard) k c.post_onward.new.self c.post_onward.result) (search rules) c.post_onward.ensures.yard
+    subst (λ (k : Key). IsHoppedOver (g.L.Lends.shown c.args.yard.now) (g.L.Lends.shown c.post_onward.new.yard) k c.post_onward.new.self c.post_onward.result) (search rules) c.post_onward.ensures.yard
 
 pub returns-in-Turned-clause-told : goal.returns-in-Turned-clause-told
-returns-in-Turned-clause-told g c = told_onward _ _ _ c.args.self.now.name c.self.inside.name c.post_onward.new.self.name c.post_onward.result (search rules) c.reach.ensures c.post_onward.ensures.told
+returns-in-Turned-clause-told g c = told_onward _ _ _ c.args.self.now.name c.self.inside.name c.post_onward.new.self.name c.post_onward.result (search rules) c.tell.ensures c.post_onward.ensures.told

@@ -25,7 +25,7 @@ returns-in-Answered-clause-told g c =
     let kept = c.loop-hop.invariant in
     let tried = subst (λ (s : StandSeat). IsTried s c.try_post.new.self c.loop-hop.draft (Answered c.in-Answered.answer)) c.go_to.ensures c.in-Answered.ensures.tried in
     let there = went_there _ _ _ c.args.self.now.name c.loop-hop.self _ c.in-Some.next c.try_post.new.self c.loop-hop._hop kept.gone.name c.self.view_is c.in-Some.ensures.next kept.went c.in-Some.ensures.found c.in-Some.ensures.rest tried.0 in
-    told_answered _ _ c.args.self.now.name c.try_post.new.self.name (c.loop-hop._hop + 1) _ _ _ c.in-Answered.answer there.1 tried.1 (told_hop _ _ _ _ c.loop-hop._hop _ kept.told c.reach.ensures c.in-Answered.ensures.told)
+    told_answered _ _ c.args.self.now.name c.try_post.new.self.name (c.loop-hop._hop + 1) _ _ _ c.in-Answered.answer there.1 tried.1 (told_hop _ _ _ _ c.loop-hop._hop _ kept.told c.tell.ensures c.in-Answered.ensures.told)
 
 pub loop-hop-preserved : goal.loop-hop-preserved
 loop-hop-preserved g c =
@@ -38,5 +38,5 @@ loop-hop-preserved g c =
           c.try_post.new.self c.loop-hop.draft c.in-Turned.back c.in-Turned.refusal tried;
       same = c.in-Turned.ensures.tried.2 ∙ kept.same;
       went = there.0;
-      told = told_hop_alone _ _ _ _ c.loop-hop._hop kept.told c.reach.ensures c.in-Turned.ensures.told;
+      told = told_hop_alone _ _ _ _ c.loop-hop._hop kept.told c.tell.ensures c.in-Turned.ensures.told;
     }

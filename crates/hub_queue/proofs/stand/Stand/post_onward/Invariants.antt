@@ -8,6 +8,6 @@ abbrev pub invariant-loop-hop : goal.invariant-loop-hop
 invariant-loop-hop g l = record {
   gone : GoneOn l.fn.self l.self l._hop l.fn.refusal l.found;
   same : l.draft ≡ l.fn.draft;
-  went : WentOver (g.S.Shelf.shown l.initial.yard) (g.S.Shelf.shown l.yard) l.fn.self.name l.self l._hop;
-  told : g.W.Watch.told l.watch ≡ told_more (g.W.Watch.told l.initial.watch) (points_hopping l._hop);
+  went : WentOver (g.L.Lends.shown l.initial.yard) (g.L.Lends.shown l.yard) l.fn.self.name l.self l._hop;
+  told : g.H.Hears.told l.heard ≡ told_more (g.H.Hears.told l.initial.heard) (points_hopping l._hop);
 }

@@ -26,7 +26,7 @@ returns-in-Ok-clause-laid g c =
     let longer = ap length items ∙ length-append c.self.inside.retired.items (older ∷ []) in
     let epoch : c.self.inside.epoch + c.behind.result + 1 ≡ c.self.inside.epoch + length c.push_back_reserved.new.self.items = omega arith in
     let lines : c.self.inside.lines ≡ c.replace-older.new.dest.at.lines = sym (ap (λ v. v.lines) c.in-Ok.ensures.ok.at) ∙ ap (λ p. p.at.lines) (sym queue) in
-    c.in-Ok.ensures.laid ∙ (λ i. option_map (λ kept. with_all (λ s. s.name) kept (stands_at (sym queue i).keeper.gate (sym queue i).queue c.self.inside.end (epoch i) (lines i))) (g.S.Shelf.shown c.args.yard.now))
+    c.in-Ok.ensures.laid ∙ (λ i. option_map (λ kept. with_all (λ s. s.name) kept (stands_at (sym queue i).keeper.gate (sym queue i).queue c.self.inside.end (epoch i) (lines i))) (g.L.Lends.shown c.args.yard.now))
 
 pub returns-in-Ok-clause-free : goal.returns-in-Ok-clause-free
 returns-in-Ok-clause-free g c =
@@ -34,7 +34,7 @@ returns-in-Ok-clause-free g c =
     let end = ap (λ t. record { 0 = t.end }) c.self.view_is in
     let epoch : c.self.inside.epoch + c.behind.result + 1 ≡ newest_epoch c.args.self + 1 = ap (λ n. c.self.inside.epoch + n + 1) behind ∙ ap (λ t. newest_epoch t + 1) c.self.view_is in
     let lines = sym c.self.invariant.lines_are ∙ ap (λ t. t.newest.at.lines) c.self.view_is in
-    keeps_none_by (g.S.Shelf.shown c.args.yard.now) _ _ _ _ _ _ end epoch lines c.in-Ok.ensures.free
+    keeps_none_by (g.L.Lends.shown c.args.yard.now) _ _ _ _ _ _ end epoch lines c.in-Ok.ensures.free
 
 pub returns-clause-taken : goal.returns-clause-taken
 returns-clause-taken g c = λ taken.
@@ -42,4 +42,4 @@ returns-clause-taken g c = λ taken.
     let end = ap (λ t. record { 0 = t.end }) c.self.view_is in
     let epoch : c.self.inside.epoch + c.behind.result + 1 ≡ newest_epoch c.args.self + 1 = ap (λ n. c.self.inside.epoch + n + 1) behind ∙ ap (λ t. newest_epoch t + 1) c.self.view_is in
     let lines = sym c.self.invariant.lines_are ∙ ap (λ t. t.newest.at.lines) c.self.view_is in
-    keeps_by (g.S.Shelf.shown c.args.yard.now) _ _ _ _ _ _ end epoch lines (c.in-Err.ensures.taken (ap Err taken))
+    keeps_by (g.L.Lends.shown c.args.yard.now) _ _ _ _ _ _ end epoch lines (c.in-Err.ensures.taken (ap Err taken))

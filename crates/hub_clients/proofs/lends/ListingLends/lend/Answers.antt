@@ -1,5 +1,0 @@
-use Rattle.std.proofs.Common.{refl}
-use Rattle.hub_clients.proofs.lends.ListingLends.lend.Goals as goal
-
-pub returns-clause-called : goal.returns-clause-called
-returns-clause-called g c = (_, _, record { shown = _; shows = refl; left = _; met = c.act.ensures; leaves = refl })

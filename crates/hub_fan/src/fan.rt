@@ -1,0 +1,200 @@
+//! Up to 32 lines at one taker.
+ghost use Rattle.std.specs.Prelude.{◌≡◌, ◌≢◌, ◌<◌, ◌≤◌, ◌+◌, ℕ, length, max, slice_get, OnErr};
+ghost use Rattle.std.specs.Prelude.{OnOk};
+ghost use Rattle.hub_fan.specs.Fans.{IsFree, IsInUse};
+
+use crate::OutOfMemory;
+use crate::asking::take_in_turn;
+use crate::closing::{ClosedFan, FanGrave};
+use crate::hints::{FanWords, Hints, bit_of};
+use crate::looking::{shut_all, some_has};
+use crate::poster::FanPoster;
+use crate::taken::FanTaken;
+use hub_channel::Armed;
+use hub_line::{LineTaker, open_line};
+use std::alloc::Global;
+use std::sync::Arc;
+
+/// How many lines a fan may have.
+const FAN_LINES: usize = 32;
+
+/// Why a line was not opened.
+#[derive(Clone, Copy, Debug, PartialEq, Eq, Drop)]
+pub enum NotOpened {
+    /// The fan has 32 lines.
+    Full,
+    OutOfMemory,
+}
+
+/// Up to 32 lines at one taker.
+#[derive(Drop)]
+pub struct Fan<M> {
+    // `None` is a place that is free.
+    pub(crate) lines: Vec<Option<LineTaker<M>>>,
+    // The line behind the last one that gave a message.
+    pub(crate) next: usize,
+    // The line that the last take has ended, which shows that all was taken of it.
+    pub(crate) ended: Option<LineTaker<M>>,
+    pub(crate) is_started: bool,
+    hints: Hints,
+    alloc: Global,
+    ghost few: { length lines.items ≤ 32 },
+}
+
+// The first place that is free; where none is, the one behind the last.
+fn free_place<M: Drop>(lines: &[Option<LineTaker<M>>]) -> usize
+    ensures most { result ≤ length lines.now }
+    ensures free { IsFree (slice_get lines.now result) }
+    ensures least { (j : ℕ) → j < result → IsInUse (slice_get lines.now j) }
+{
+    for line in 0..lines.len() {
+        if lines[line].is_none() {
+            return line;
+        }
+    }
+    lines.len()
+}
+
+// Puts a line into a place, or into a new one behind the last.
+fn put<M: Drop>(
+    lines: &mut Vec<Option<LineTaker<M>>>,
+    line: usize,
+    taker: LineTaker<M>,
+) -> Result<(), OutOfMemory>
+    requires { line ≤ length lines.old.items }
+    ensures here { OnOk result (slice_get lines.new.items line ≡ Some (Some taker)) }
+    ensures beside { (j : ℕ) → j ≢ line →
+        slice_get lines.new.items j ≡ slice_get lines.old.items j }
+    ensures most { length lines.new.items ≤ max (length lines.old.items) (line + 1) }
+    ensures refused { OnErr result (lines.new.items ≡ lines.old.items) }
+{
+    if line < lines.len() {
+        lines[line] = Some(taker);
+    } else {
+        lines.push(Some(taker))?;
+    }
+    Ok(())
+}
+
+impl<M: Drop> Fan<M> {
+    ghost use Rattle.std.specs.Prelude.{◌≡◌, ◌<◌, ◌↔◌, ℕ, [], Some, None, true, false, slice_get};
+    ghost use Rattle.std.specs.Prelude.{IfOk, OnErr, IsErrOf};
+    ghost use Rattle.hub_fan.specs.Fans.{EachPlace, IfEnded, IfFrom, IsFree, IsInUse, Opens};
+    ghost use Rattle.hub_fan.specs.Fans.{SomeShows, TookInTurn, next_after, with_ended};
+    ghost use Rattle.hub_fan.specs.Places.{GivesNone, Keeps, Shuts};
+    ghost use Rattle.hub_fan.specs.declared.taken.FanTaken.TheVariants.{Disabled};
+    ghost use Rattle.hub_fan.specs.declared.fan.NotOpened.TheVariants.{Full};
+
+    /// A fan with no line, which isn't started.
+    pub fn open(alloc: Global) -> Result<Fan<M>, OutOfMemory>
+        ensures { IfOk result (λ fan. (fan.lines.items ≡ []) × (fan.is_started ≡ false)) }
+    {
+        Ok(Fan {
+            lines: Vec::new(alloc),
+            next: 0,
+            ended: None,
+            is_started: false,
+            hints: Hints::new(FanWords::open(alloc)?),
+            alloc,
+        })
+    }
+
+    /// Opens a line in the lowest place that is free: its number, and its poster. After an error
+    /// the fan is as it was.
+    pub fn open_line(&mut self) -> Result<(usize, FanPoster<M>), NotOpened>
+        ensures opened { IfOk result (λ r. (r.0 < 32)
+            × Opens r.0 r.1.to self.old.lines.items self.new.lines.items) }
+        ensures least { IfOk result (λ r. (j : ℕ) → j < r.0 →
+            IsInUse (slice_get self.old.lines.items j)) }
+        ensures full { IsErrOf result Full → (j : ℕ) → j < 32 →
+            IsInUse (slice_get self.old.lines.items j) }
+        ensures refused { OnErr result (self.new.lines.items ≡ self.old.lines.items) }
+        ensures others { (self.new.next ≡ self.old.next)
+            × (self.new.is_started ≡ self.old.is_started) }
+    {
+        let line = free_place(self.lines.as_slice());
+        if line >= FAN_LINES {
+            return Err(NotOpened::Full);
+        }
+        let Ok((to, taker)) = open_line(self.alloc) else {
+            return Err(NotOpened::OutOfMemory);
+        };
+        let Ok(words) = Arc::try_clone(&self.hints.words) else {
+            return Err(NotOpened::OutOfMemory);
+        };
+        if put(&mut self.lines, line, taker).is_err() {
+            return Err(NotOpened::OutOfMemory);
+        }
+        let bit = bit_of(line);
+        Ok((line, FanPoster { to, bit, words }))
+    }
+
+    /// Messages may be taken from now on.
+    pub fn start(&mut self)
+        ensures started { self.new.is_started ≡ true }
+        ensures same { (self.new.lines ≡ self.old.lines) × (self.new.next ≡ self.old.next) }
+    {
+        self.is_started = true;
+    }
+
+    /// Takes the next message, where the fan is started. The lines are asked in turn, from behind
+    /// the last one that gave a message; first those whose posters have set their bits, and then
+    /// the others. So `Empty` comes only where each line was asked in this call and gave nothing.
+    #[inline(always)]
+    pub fn take(&mut self) -> FanTaken<M>
+        ensures took { (ready : ℕ) × TookInTurn self.old.next ready result
+            self.old.lines.items (with_ended result self.new.ended self.new.lines.items) }
+        ensures free { IfEnded (λ i. slice_get self.new.lines.items i ≡ Some None) result }
+        ensures next { self.new.next ≡ next_after result self.old.next }
+        ensures disabled { (result ≡ Disabled) ↔ (self.old.is_started ≡ false) }
+        ensures from { IfFrom (λ i. i < 32) result }
+        ensures others { self.new.is_started ≡ self.old.is_started }
+    {
+        if !self.is_started {
+            return FanTaken::Disabled;
+        }
+        let ready = self.hints.ready();
+        let lines = self.lines.as_mut_slice();
+        let (taken, ended) = take_in_turn(lines, self.next, ready, &mut self.hints);
+        self.ended = ended;
+        if let FanTaken::Message(line, _) = &taken {
+            self.next = *line + 1;
+        }
+        taken
+    }
+
+    /// Says by its token whom to wake for the fan, and looks into each line then.
+    pub fn arm(&mut self, token: u64) -> Armed
+        ensures same { EachPlace Keeps self.old.lines.items self.new.lines.items }
+        ensures some { result.waits ≡ true → SomeShows self.old.lines.items self.new.lines.items }
+        ensures none { result.waits ≡ false →
+            EachPlace GivesNone self.old.lines.items self.new.lines.items }
+        ensures others { (self.new.next ≡ self.old.next)
+            × (self.new.is_started ≡ self.old.is_started) }
+    {
+        let old = self.hints.words.arm(token);
+        self.hints.gather();
+        let waits = some_has(self.lines.as_mut_slice());
+        Armed { token: old, waits }
+    }
+
+    /// Closes the fan: the posts of each poster are refused from its next call on. What it has
+    /// posted until then is handed back by the grave.
+    pub fn close(self) -> ClosedFan<M>
+        ensures { EachPlace Shuts self.lines.items result.grave.lines.items }
+    {
+        let Fan {
+            mut lines,
+            next: _,
+            ended: _,
+            is_started: _,
+            hints,
+            alloc: _,
+        } = self;
+        shut_all(lines.as_mut_slice());
+        ClosedFan {
+            grave: FanGrave { lines },
+            token: hints.words.disarm(),
+        }
+    }
+}

@@ -1,0 +1,47 @@
+//! A place of a fan: it has a line, or it is free.
+ghost use Rattle.std.specs.Prelude.{IsFalse, IsTrue};
+ghost use Rattle.hub_fan.specs.Places.{Answers, GivesNone, HandsBack, Keeps, Shows, Shuts};
+
+use hub_line::{LineTaken, LineTaker};
+
+/// Asks a place for its next message.
+#[inline(always)]
+pub(crate) fn ask<M: Drop>(place: &mut Option<LineTaker<M>>) -> LineTaken<M>
+    ensures { Answers result place.old place.new }
+{
+    match place {
+        Some(line) => line.take(),
+        None => LineTaken::Empty,
+    }
+}
+
+/// Asks a place of a closed fan for its next message.
+pub(crate) fn hand_back<M: Drop>(place: &mut Option<LineTaker<M>>) -> LineTaken<M>
+    ensures { HandsBack result place.old place.new }
+{
+    match place {
+        Some(line) => line.take(),
+        None => LineTaken::Ended,
+    }
+}
+
+/// Whether a place has something to take: a message, or the end of its line.
+pub(crate) fn has_some<M: Drop>(place: &mut Option<LineTaker<M>>) -> bool
+    ensures same { Keeps place.old place.new }
+    ensures some { IsTrue result → Shows place.old place.new }
+    ensures none { IsFalse result → GivesNone place.old place.new }
+{
+    match place {
+        Some(line) => line.has_some(),
+        None => false,
+    }
+}
+
+/// Closes the line of a place.
+pub(crate) fn shut<M: Drop>(place: &mut Option<LineTaker<M>>)
+    ensures { Shuts place.old place.new }
+{
+    if let Some(line) = place {
+        line.shut();
+    }
+}
