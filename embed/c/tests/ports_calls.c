@@ -9,45 +9,9 @@
  * It prints how much it did. The exit status is 99 where the library breaks its word; then standard
  * error says where.
  */
-#include "varukoni_ports.h"
+#include "refusing.h"
 
-#include <stdio.h>
-
-enum { BROKEN = 99, NESTED = 100000, WAITING = 1000000 };
-
-#define NEED(what)                                                              \
-    do {                                                                        \
-        if (!(what)) {                                                          \
-            fprintf(stderr, "ports_calls: line %d: %s\n", __LINE__, #what);     \
-            exit(BROKEN);                                                       \
-        }                                                                       \
-        needed++;                                                               \
-    } while (0)
-static unsigned long needed;
-
-/* What refuses an allocation, and counts what is taken: the linker puts these in the place of
- * malloc and free (--wrap). */
-static unsigned long left;
-static size_t taken, most;
-void *__real_malloc(size_t size);
-void __real_free(void *block);
-
-void *__wrap_malloc(size_t size) {
-    size_t *block;
-    if (left > 0 && --left == 0) return NULL;
-    block = __real_malloc(size + 16);
-    if (!block) exit(BROKEN);
-    *block = size;
-    taken += size;
-    if (taken > most) most = taken;
-    return (char *)block + 16;
-}
-
-void __wrap_free(void *block) {
-    if (!block) return;
-    taken -= *(size_t *)((char *)block - 16);
-    __real_free((char *)block - 16);
-}
+enum { NESTED = 100000, WAITING = 1000000 };
 
 static struct varukoni_port closed(void) {
     struct varukoni_port port = VARUKONI_PORT_INIT;
@@ -211,17 +175,6 @@ static unsigned long scenario(void) {
     return refused;
 }
 
-static int refuse(void) {
-    unsigned long rounds = 0;
-    for (unsigned long at = 1;; at++) {
-        left = at;
-        if (scenario() == 0) break;
-        rounds++;
-    }
-    printf("refused: %lu\n", rounds);
-    return 0;
-}
-
 static int nested(void) {
     struct varukoni_port inner = closed(), outer = closed(), far_end = closed();
     struct varukoni_unclaimed unclaimed = {NULL, NULL};
@@ -264,7 +217,7 @@ static int memory(void) {
 int main(int count, char **words) {
     const char *word = count == 2 ? words[1] : "";
     if (strcmp(word, "answers") == 0) return answers();
-    if (strcmp(word, "refuse") == 0) return refuse();
+    if (strcmp(word, "refuse") == 0) return refuse_each(scenario);
     if (strcmp(word, "nested") == 0) return nested();
     if (strcmp(word, "memory") == 0) return memory();
     fprintf(stderr, "ports_calls: answers, refuse, nested or memory\n");

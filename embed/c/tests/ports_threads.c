@@ -13,31 +13,9 @@
  * breaks its word.
  */
 #define _GNU_SOURCE
-#include "varukoni_ports.h"
+#include "threads.h"
 
-#include <errno.h>
-#include <pthread.h>
-#include <stdio.h>
-#include <time.h>
-
-enum { BROKEN = 99, LOST = 1, MESSAGES = 20000, SLEEPERS = 3, AT_ONCE = 1000, BATCH = 100 };
-
-#define NEED(what)                                                                \
-    do {                                                                          \
-        if (!(what)) {                                                            \
-            fprintf(stderr, "ports_threads: line %d: %s\n", __LINE__, #what);     \
-            exit(BROKEN);                                                         \
-        }                                                                         \
-    } while (0)
-
-static struct varukoni_message numbered(uint64_t number) {
-    struct varukoni_message message = {NULL, (size_t)number, NULL};
-    return message;
-}
-
-static void start(pthread_t *thread, void *(*run)(void *), void *with) {
-    NEED(pthread_create(thread, NULL, run, with) == 0);
-}
+enum { MESSAGES = 20000, SLEEPERS = 3, AT_ONCE = 1000, BATCH = 100 };
 
 static void open_channel(struct varukoni_port *left, struct varukoni_port *right) {
     memset(left, 0, sizeof *left), memset(right, 0, sizeof *right);
@@ -188,7 +166,7 @@ static int closing(unsigned long rounds) {
         }
     }
     pthread_join(thread, NULL);
-    printf("closed: %lu\ntaken: %lu\n", BATCH * batches, (unsigned long)taken);
+    printf("ports closed: %lu\nmessages taken: %lu\n", BATCH * batches, (unsigned long)taken);
     printf("handed back: %lu\n", (unsigned long)handed);
     return 0;
 }
@@ -199,20 +177,6 @@ static struct varukoni_waker wakers[SLEEPERS];
 static struct varukoni_port ways[SLEEPERS], doors[SLEEPERS];
 static pthread_mutex_t ways_lock = PTHREAD_MUTEX_INITIALIZER;
 static int is_late;
-static unsigned long sleeps;
-
-/* Sleeps as varukoni_park does, for two seconds at most. */
-static void nap(int me) {
-    struct timespec most = {2, 0};
-    __atomic_add_fetch(&sleeps, 1, __ATOMIC_RELAXED);
-    while (__atomic_exchange_n(&wakers[me].is_rung, 0, __ATOMIC_SEQ_CST) == 0)
-        if (syscall(SYS_futex, &wakers[me].is_rung, FUTEX_WAIT_PRIVATE, 0, &most, NULL, 0) != 0
-            && errno == ETIMEDOUT) {
-            printf("lost: a wake-up\n");
-            fflush(stdout);
-            _exit(LOST);
-        }
-}
 
 static void send_on(int to, struct varukoni_port *port) {
     uint64_t wake;
@@ -265,7 +229,7 @@ static void *sleeper(void *which) {
             varukoni_port_drop(&port);
             for (int k = 0; k < SLEEPERS; k++) close_port(&ways[k]);
         } else if (!arm_both(me, &port)) {
-            nap(me);
+            nap(&wakers[me]);
         }
     }
 }

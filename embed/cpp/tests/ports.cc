@@ -1,42 +1,14 @@
 // What the types of varukoni_ports.hpp do: what comes, what is destroyed, and who is woken. It
 // prints how much it did; the exit status is 99 where something is wrong.
-#include "varukoni_ports.hpp"
+#include "needing.hpp"
 
-#include <atomic>
-#include <cstdio>
-#include <cstdlib>
 #include <type_traits>
-
-using namespace varukoni;
-using namespace std::chrono_literals;
 
 static_assert(!std::is_copy_constructible_v<Port> && !std::is_copy_assignable_v<Port>);
 static_assert(std::is_nothrow_move_constructible_v<Port>);
-static_assert(!std::is_copy_constructible_v<Message>);
-
-static std::atomic<int> living, needed;
-
-static void need(bool holds, int line) {
-    needed++;
-    if (holds) return;
-    std::fprintf(stderr, "ports.cc: line %d\n", line);
-    std::exit(99);
-}
-#define NEED(what) need(what, __LINE__)
-
-struct Counted final : Body {
-    unsigned long number;
-    explicit Counted(unsigned long given = 0) : number(given) { living++; }
-    ~Counted() override { living--; }
-};
-
-static Message counted(unsigned long number = 0) {
-    return Message(std::make_unique<Counted>(number));
-}
-
-static unsigned long number(const Message &message) {
-    return static_cast<const Counted &>(*message.body).number;
-}
+static_assert(!std::is_copy_constructible_v<Message> && !std::is_copy_constructible_v<Fan>);
+static_assert(!std::is_copy_constructible_v<Line> && !std::is_copy_constructible_v<Group>);
+static_assert(!std::is_copy_constructible_v<Member>);
 
 static void what_waits_travels_along() {
     auto [near, far] = open_channel();
@@ -89,6 +61,14 @@ static void close_gives_what_nobody_took() {
     NEED(found.size() == 4 && number(found[3]) == 4 && living == 4);
     found.clear();
     NEED(living == 0 && left.post(counted()) == Posted::closed);
+}
+
+static void a_closed_port_keeps_nothing() {
+    Port closed;
+    Message refused = counted(4);
+    NEED(closed.post(refused) == Posted::closed && number(refused) == 4);
+    auto waker = std::make_shared<int>();
+    NEED(!closed.arm([waker] {}) && waker.use_count() == 1 && !closed.wait());
 }
 
 static void posts_beside_a_close_are_destroyed_once(int rounds) {
@@ -154,6 +134,7 @@ int main() {
     what_waits_travels_along();
     what_is_refused_comes_back();
     close_gives_what_nobody_took();
+    a_closed_port_keeps_nothing();
     posts_beside_a_close_are_destroyed_once(300);
     nested_ports_are_closed(100000);
     who_waits_is_woken_once();

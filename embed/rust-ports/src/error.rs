@@ -8,7 +8,7 @@ use crate::{MessagePort, Payload};
 /// Why a message was not posted.
 #[derive(Debug, Clone, Copy, PartialEq, Eq)]
 pub enum Why {
-    /// The other port is closed: this stays so.
+    /// The other port, or the queue, is closed: this stays so.
     Closed,
     /// There was no memory.
     OutOfMemory,
@@ -22,7 +22,7 @@ pub enum Why {
 impl fmt::Display for Why {
     fn fmt(&self, out: &mut fmt::Formatter<'_>) -> fmt::Result {
         out.write_str(match self {
-            Why::Closed => "the other port is closed",
+            Why::Closed => "the other side is closed",
             Why::OutOfMemory => "out of memory",
             Why::TooManyPorts => "more than 16 ports in a message",
             Why::HoldsTarget => "the message holds the port at which it would arrive",
@@ -31,6 +31,16 @@ impl fmt::Display for Why {
 }
 
 /// A message that was not posted: all of it comes back.
+///
+/// ```
+/// use varukoni_ports::{channel, Refused};
+///
+/// let (mut left, right) = channel();
+/// drop(right);
+/// let Refused { why, payload, .. } = left.post_message("late", vec![]).unwrap_err();
+/// assert_eq!(why.to_string(), "the other side is closed");
+/// assert_eq!(payload.as_bytes(), Some(&b"late"[..]));
+/// ```
 #[derive(Debug)]
 pub struct Refused {
     /// Why it was not posted.
@@ -100,3 +110,32 @@ impl fmt::Display for RecvTimeoutError {
 }
 
 impl Error for RecvTimeoutError {}
+
+/// A queue has as many lines as it may have.
+#[derive(Debug, Clone, Copy, PartialEq, Eq)]
+pub struct TooManyLines;
+
+impl fmt::Display for TooManyLines {
+    fn fmt(&self, out: &mut fmt::Formatter<'_>) -> fmt::Result {
+        out.write_str("the queue has 32 lines")
+    }
+}
+
+impl Error for TooManyLines {}
+
+/// A broadcast didn't come to all: memory ran out.
+#[derive(Debug, Clone, Copy, PartialEq, Eq)]
+pub struct Undelivered {
+    /// At how many channels it was posted.
+    pub posted: usize,
+    /// At how many it was not.
+    pub refused: usize,
+}
+
+impl fmt::Display for Undelivered {
+    fn fmt(&self, out: &mut fmt::Formatter<'_>) -> fmt::Result {
+        write!(out, "out of memory for {} of the channels", self.refused)
+    }
+}
+
+impl Error for Undelivered {}

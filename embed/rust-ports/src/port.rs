@@ -1,32 +1,23 @@
 //! Message ports.
 
 use std::alloc::{handle_alloc_error, Layout};
-use std::cell::RefCell;
 use std::fmt;
-use std::future::Future;
-use std::iter::FusedIterator;
 use std::mem;
-use std::pin::Pin;
-use std::sync::{Arc, Mutex, PoisonError};
-use std::task::{Context, Poll, Waker};
-use std::thread;
-use std::time::{Duration, Instant};
+use std::sync::Arc;
 
-use crate::error::{Ended, RecvTimeoutError, Refused, TryRecvError, Why};
-use crate::sys;
-use crate::wake;
-use crate::{Message, Payload};
+use crate::error::{Refused, TryRecvError, Why};
+use crate::later::{drop_all, Grave};
+use crate::receive::{receives, Source};
+use crate::sys::{self, Drains, Words};
+use crate::{wake, Message, Payload};
 
 /// The most ports in a message.
 pub const MAX_PORTS: usize = 16;
 
-/// How often a thread looks before it parks.
-const LOOKS: usize = 10;
-
 /// What is left of the two ports of a channel once they are closed, and not yet ended: each is
 /// drained by the other port's next call.
 struct Channel {
-    graves: [Mutex<Option<sys::Port>>; 2],
+    graves: [Grave<sys::Port>; 2],
 }
 
 /// One of the two entangled ports of a channel (HTML, "Message ports").
@@ -78,7 +69,7 @@ pub fn channel() -> (MessagePort, MessagePort) {
         handle_alloc_error(Layout::new::<[u8; 5_000]>());
     }
     let channel = Arc::new(Channel {
-        graves: [Mutex::new(None), Mutex::new(None)],
+        graves: [Grave::new(), Grave::new()],
     });
     let other = Arc::clone(&channel);
     (
@@ -111,6 +102,7 @@ impl MessagePort {
     /// assert_eq!(refused.why, Why::Closed);
     /// assert_eq!(refused.payload.as_bytes(), Some(&b"late"[..]));
     /// ```
+    #[inline]
     pub fn post_message(
         &mut self,
         payload: impl Into<Payload>,
@@ -132,24 +124,32 @@ impl MessagePort {
             wake::wake(woken);
             return Ok(());
         }
+        // The library has taken nothing, so these words are this call's still.
+        let message = unsafe { Message::from_words(words) };
+        Err(self.refused(status, message))
+    }
+
+    /// What the library didn't post comes back.
+    #[cold]
+    fn refused(&self, status: u8, message: Message) -> Refused {
         let why = if status == sys::NO_MEMORY {
             Why::OutOfMemory
         } else {
             Why::Closed
         };
         if why == Why::Closed {
-            self.bury_peer();
+            self.peer_grave().go_on();
         }
-        // The library has taken nothing, so these words are this call's still.
-        let Message { payload, ports } = unsafe { Message::from_words(words) };
-        Err(Refused {
+        let Message { payload, ports } = message;
+        Refused {
             why,
             payload,
             ports,
-        })
+        }
     }
 
     /// Why these ports can't be sent by this one.
+    #[inline]
     fn refusal_of(&self, ports: &[MessagePort]) -> Option<Why> {
         if ports.len() > MAX_PORTS {
             return Some(Why::TooManyPorts);
@@ -161,6 +161,12 @@ impl MessagePort {
     }
 
     /// Allows messages to be taken, as the first call that receives does.
+    ///
+    /// ```
+    /// let (_near, mut far) = varukoni_ports::channel();
+    /// far.start();
+    /// ```
+    #[inline]
     pub fn start(&mut self) {
         if !self.is_started {
             self.is_started = true;
@@ -179,97 +185,16 @@ impl MessagePort {
     /// drop(left);
     /// assert_eq!(right.try_recv().unwrap_err(), TryRecvError::Ended);
     /// ```
+    #[inline]
     pub fn try_recv(&mut self) -> Result<Message, TryRecvError> {
-        self.start();
-        let mut words = sys::Words::default();
-        // The handle is this port's alone, and the two places are different ones.
-        match unsafe { sys::varukoni_port_take(&mut self.handle, &mut words) } {
-            // Each message that was posted is taken once.
-            sys::DONE => Ok(adopted(unsafe { Message::from_words(words) })),
-            sys::ENDED => {
-                self.bury_peer();
-                Err(TryRecvError::Ended)
-            }
-            _ => Err(TryRecvError::Empty),
-        }
+        self.try_take()
     }
 
-    /// Waits for the next message. It looks some times, and parks the thread then.
-    pub fn recv(&mut self) -> Result<Message, Ended> {
-        match self.recv_until(None) {
-            Ok(message) => Ok(message),
-            Err(_) => Err(Ended),
-        }
-    }
-
-    /// Waits for the next message, for that long at most.
-    ///
-    /// ```
-    /// use std::time::Duration;
-    /// use varukoni_ports::{channel, RecvTimeoutError};
-    ///
-    /// let (_left, mut right) = channel();
-    /// let nothing = right.recv_timeout(Duration::from_millis(1));
-    /// assert_eq!(nothing.unwrap_err(), RecvTimeoutError::Timeout);
-    /// ```
-    pub fn recv_timeout(&mut self, timeout: Duration) -> Result<Message, RecvTimeoutError> {
-        self.recv_until(Instant::now().checked_add(timeout))
-    }
-
-    fn recv_until(&mut self, end: Option<Instant>) -> Result<Message, RecvTimeoutError> {
-        for _ in 0..LOOKS {
-            match self.try_recv() {
-                Ok(message) => return Ok(message),
-                Err(TryRecvError::Ended) => return Err(RecvTimeoutError::Ended),
-                Err(TryRecvError::Empty) => thread::yield_now(),
-            }
-        }
-        wake::with_this_thread(|waker| loop {
-            match self.poll_recv(&mut Context::from_waker(waker)) {
-                Poll::Ready(Some(message)) => return Ok(message),
-                Poll::Ready(None) => return Err(RecvTimeoutError::Ended),
-                Poll::Pending => {}
-            }
-            match end {
-                None => thread::park(),
-                Some(end) => match end.checked_duration_since(Instant::now()) {
-                    Some(left) if !left.is_zero() => thread::park_timeout(left),
-                    _ => return self.recv_at_last(),
-                },
-            }
-        })
-    }
-
-    /// The time is over: nobody is to be woken any more, and what has come until then is taken.
-    fn recv_at_last(&mut self) -> Result<Message, RecvTimeoutError> {
-        self.disarm();
-        self.try_recv().map_err(|error| match error {
-            TryRecvError::Empty => RecvTimeoutError::Timeout,
-            TryRecvError::Ended => RecvTimeoutError::Ended,
-        })
-    }
-
-    /// The next message for a task, which is woken when one comes. None where nothing more will.
-    ///
-    /// The waker of the last call alone is woken, as of any future.
-    pub fn poll_recv(&mut self, context: &mut Context<'_>) -> Poll<Option<Message>> {
-        loop {
-            match self.try_recv() {
-                Ok(message) => return Poll::Ready(Some(message)),
-                Err(TryRecvError::Ended) => return Poll::Ready(None),
-                Err(TryRecvError::Empty) => {}
-            }
-            if self.arm(context.waker()) {
-                return Poll::Pending;
-            }
-        }
-    }
-
-    /// The next message, in an `async` function on any executor. None where nothing more will come.
-    ///
-    /// It may be dropped while it waits; no message is lost then.
-    pub async fn next(&mut self) -> Option<Message> {
-        Next(self).await
+    /// The peer is closed, and nothing of what it has posted is left.
+    #[cold]
+    fn ended(&self) -> TryRecvError {
+        self.peer_grave().go_on();
+        TryRecvError::Ended
     }
 
     /// Closes the port, and hands back what nobody took, in order. Dropping it does the same, and
@@ -287,138 +212,88 @@ impl MessagePort {
     /// assert_eq!(left_over[0].payload.as_bytes(), Some(&b"unread"[..]));
     /// ```
     pub fn close(mut self) -> Vec<Message> {
-        let mut left_over = Vec::new();
-        self.shut(&mut |message| left_over.push(adopted(message)));
+        let mut left_over = self.shut();
+        adopt_all(&mut left_over);
         left_over
-    }
-
-    /// Leaves a waker, and answers whether nothing can be taken now.
-    fn arm(&mut self, waker: &Waker) -> bool {
-        let mut old = 0;
-        let token = wake::token(waker);
-        // The handle is this port's alone.
-        let status = unsafe { sys::varukoni_port_arm(&mut self.handle, token, &mut old) };
-        wake::forget(old);
-        status == sys::EMPTY
-    }
-
-    fn disarm(&mut self) {
-        let mut old = 0;
-        // The handle is this port's alone.
-        unsafe { sys::varukoni_port_arm(&mut self.handle, 0, &mut old) };
-        wake::forget(old);
     }
 
     /// Closes the handle, and gives what comes out of it. What is still to come is left to the
     /// peer.
-    fn shut(&mut self, give: &mut dyn FnMut(Message)) {
+    fn shut(&mut self) -> Vec<Message> {
         if !self.handle.is_open() {
-            return;
+            return Vec::new();
         }
         let (mut own, mut woken) = (0, 0);
         // The handle is this port's alone, and the places are different ones.
         unsafe { sys::varukoni_port_close(&mut self.handle, &mut own, &mut woken) };
         wake::forget(own);
         wake::wake(woken);
-        self.bury_peer();
-        let mut grave = mem::replace(&mut self.handle, sys::Port::CLOSED);
-        if !drained(&mut grave, give) {
-            let mut place = self.channel.graves[self.side]
-                .lock()
-                .unwrap_or_else(PoisonError::into_inner);
-            // The peer may have ended its line before the place was locked.
-            if !drained(&mut grave, give) {
-                *place = Some(grave);
-            }
-        }
+        self.peer_grave().go_on();
+        let handle = mem::replace(&mut self.handle, sys::Port::CLOSED);
+        self.channel.graves[self.side].leave(handle)
     }
 
-    /// Drains what is left of the peer, whose line this port has ended.
-    fn bury_peer(&mut self) {
-        let mut place = self.channel.graves[1 - self.side]
-            .lock()
-            .unwrap_or_else(PoisonError::into_inner);
-        let grave = place.take();
-        drop(place);
-        if let Some(mut grave) = grave {
-            if !drained(&mut grave, &mut drop_later) {
-                let mut place = self.channel.graves[1 - self.side]
-                    .lock()
-                    .unwrap_or_else(PoisonError::into_inner);
-                *place = Some(grave);
-            }
-        }
+    /// What is left of the peer, once this port has ended its line.
+    fn peer_grave(&self) -> &Grave<sys::Port> {
+        &self.channel.graves[1 - self.side]
     }
 }
 
-/// Gives all that comes out of a closed handle. Whether its line has ended.
-fn drained(grave: &mut sys::Port, give: &mut dyn FnMut(Message)) -> bool {
-    loop {
-        let mut words = sys::Words::default();
-        // The handle is this call's alone, and the two places are different ones.
-        match unsafe { sys::varukoni_port_drain(grave, &mut words) } {
-            // Each message that was posted is handed back once.
-            sys::DONE => give(unsafe { Message::from_words(words) }),
-            sys::ENDED => return true,
-            _ => return false,
+impl Source for MessagePort {
+    type Item = Message;
+
+    #[inline]
+    fn take(&mut self, words: &mut Words) -> Result<(), TryRecvError> {
+        self.start();
+        // The handle is this port's alone, and the two places are different ones.
+        match unsafe { sys::varukoni_port_take(&mut self.handle, words) } {
+            sys::DONE => Ok(()),
+            sys::ENDED => Err(self.ended()),
+            _ => Err(TryRecvError::Empty),
         }
+    }
+
+    #[inline]
+    unsafe fn item(words: Words) -> Message {
+        Message::arrived(words)
+    }
+
+    fn arm(&mut self, token: u64) -> (u8, u64) {
+        let mut old = 0;
+        // The handle is this port's alone.
+        let status = unsafe { sys::varukoni_port_arm(&mut self.handle, token, &mut old) };
+        (status, old)
+    }
+}
+
+receives!(
+    MessagePort,
+    Message,
+    "let (mut near, mut taker) = varukoni_ports::channel();
+near.post_message(\"hello\", vec![]).unwrap();"
+);
+
+/// The ports of these messages are another owner's.
+pub(crate) fn adopt_all(messages: &mut [Message]) {
+    for message in messages {
+        adopt(&mut message.ports);
     }
 }
 
 /// The ports of a message that has arrived are another owner's: disabled, and nobody's to wake.
-fn adopted(mut message: Message) -> Message {
-    for port in &mut message.ports {
+pub(crate) fn adopt(ports: &mut [MessagePort]) {
+    for port in ports {
         let mut old = 0;
         port.is_started = false;
         // The handle is this message's alone.
         unsafe { sys::varukoni_port_adopt(&mut port.handle, 0, &mut old) };
         wake::forget(old);
     }
-    message
-}
-
-thread_local! {
-    /// Messages to be dropped, while some are: what they hold is dropped after them, and not
-    /// within.
-    static LATER: RefCell<Option<Vec<Message>>> = RefCell::new(None);
-}
-
-/// Drops a message with all that it holds, however deep, without a call within a call.
-fn drop_later(message: Message) {
-    let first = LATER.try_with(|later| {
-        let mut later = later.borrow_mut();
-        match later.as_mut() {
-            Some(messages) => {
-                messages.push(message);
-                None
-            }
-            None => {
-                *later = Some(Vec::new());
-                Some(message)
-            }
-        }
-    });
-    let mut next = match first {
-        Ok(first) => first,
-        // The thread ends: what is left is dropped by the calls within.
-        Err(_) => return,
-    };
-    while let Some(message) = next {
-        drop(message);
-        next = LATER.with(|later| {
-            let mut later = later.borrow_mut();
-            let more = later.as_mut().and_then(Vec::pop);
-            if more.is_none() {
-                *later = None;
-            }
-            more
-        });
-    }
 }
 
 impl Drop for MessagePort {
     fn drop(&mut self) {
-        self.shut(&mut drop_later);
+        drop_all(self.shut());
     }
 }
 
@@ -429,25 +304,3 @@ impl fmt::Debug for MessagePort {
             .finish_non_exhaustive()
     }
 }
-
-/// The next message of a port.
-struct Next<'p>(&'p mut MessagePort);
-
-impl Future for Next<'_> {
-    type Output = Option<Message>;
-
-    fn poll(mut self: Pin<&mut Self>, context: &mut Context<'_>) -> Poll<Option<Message>> {
-        self.0.poll_recv(context)
-    }
-}
-
-/// Waits for each next message, up to the end.
-impl Iterator for &mut MessagePort {
-    type Item = Message;
-
-    fn next(&mut self) -> Option<Message> {
-        self.recv().ok()
-    }
-}
-
-impl FusedIterator for &mut MessagePort {}

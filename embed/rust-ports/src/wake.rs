@@ -17,7 +17,15 @@ fn owned(token: u64) -> Option<Box<Waker>> {
 }
 
 /// Wakes whom a token names.
+#[inline]
 pub(crate) fn wake(token: u64) {
+    if token != 0 {
+        wake_sleeper(token);
+    }
+}
+
+#[cold]
+fn wake_sleeper(token: u64) {
     if let Some(waker) = owned(token) {
         waker.wake();
     }

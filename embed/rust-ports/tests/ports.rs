@@ -1,5 +1,7 @@
 //! What the compiler can't see of ports: what comes, what is dropped, and who is woken.
 
+mod counted;
+
 use std::future::Future;
 use std::sync::atomic::{AtomicUsize, Ordering};
 use std::sync::Arc;
@@ -7,27 +9,8 @@ use std::task::{Context, Poll, Wake, Waker};
 use std::thread;
 use std::time::{Duration, Instant};
 
+use counted::{number, Counted};
 use varukoni_ports::{channel, MessagePort, Payload, RecvTimeoutError, TryRecvError, Why};
-
-/// A value that counts how many of its like are there.
-struct Counted(Arc<AtomicUsize>);
-
-impl Counted {
-    fn new(count: &Arc<AtomicUsize>) -> Counted {
-        count.fetch_add(1, Ordering::SeqCst);
-        Counted(Arc::clone(count))
-    }
-}
-
-impl Drop for Counted {
-    fn drop(&mut self) {
-        self.0.fetch_sub(1, Ordering::SeqCst);
-    }
-}
-
-fn number(payload: Payload) -> u64 {
-    payload.downcast().unwrap()
-}
 
 #[test]
 fn what_waits_travels_along() {
