@@ -1,0 +1,6 @@
+'use strict';
+
+onmessage = ({ data }) => {
+  postMessage(data);
+  close();
+};

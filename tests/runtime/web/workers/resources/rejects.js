@@ -1,0 +1,3 @@
+'use strict';
+
+Promise.reject(new Error('nobody handles this'));
