@@ -45,6 +45,7 @@ path = {source}
 
 [dependencies]
 {crate} = {{ version = "*", features = {features}, optional = true }}
+{beside}
 
 [features]
 default = [{crate}]
@@ -266,9 +267,6 @@ def ratio(over, under, scale=1.0):
     return Figure(of(min), of(statistics.median), min(singles), max(singles))
 
 
-# The report
-
-
 class Row(NamedTuple):
     figure: str
     value: str
@@ -277,8 +275,6 @@ class Row(NamedTuple):
 
 
 class Report:
-    """The figures of all benches, with their bounds, and what failed or was left out."""
-
     def __init__(self):
         self.rows = []
         # Both as keys, so that each stands there once.
@@ -325,11 +321,6 @@ def found_tool(name):
     return Program((path,)) if path else Program(gap=Gap(name, is_failure=False))
 
 
-def is_gnu_time(path):
-    answer = subprocess.run([path, "--version"], capture_output=True, text=True, errors="replace")
-    return "GNU" in answer.stdout + answer.stderr
-
-
 @functools.cache
 def gnu_time():
     """GNU's time, which tells how much memory a process had.
@@ -338,21 +329,24 @@ def gnu_time():
     smaller than Python has to.
     """
     tool = found_tool("time")
-    if tool.gap or not is_gnu_time(tool.words[0]):
-        return Program(gap=Gap("GNU time", is_failure=False))
-    return tool
+    if not tool.gap:
+        words = [*tool.words, "--version"]
+        said = subprocess.run(words, capture_output=True, text=True, errors="replace")
+        if "GNU" in said.stdout + said.stderr:
+            return tool
+    return Program(gap=Gap("GNU time", is_failure=False))
 
 
-def make_project(folder, **values):
+def make_project(folder, beside="", **values):
     """Makes a Cargo project of these values; a string or a list of them is in TOML as in JSON."""
     words = {name: json.dumps(value, ensure_ascii=False) for name, value in values.items()}
     (folder / ".cargo").mkdir(parents=True)
     for name, text in (("Cargo.toml", MANIFEST), (".cargo/config.toml", CARGO_SETTINGS)):
-        (folder / name).write_text(text.format(**words), "utf-8", "surrogateescape")
+        text = text.format(beside=beside, **words)
+        (folder / name).write_text(text, "utf-8", "surrogateescape")
 
 
 def hold_to_two():
-    """Holds this process to the first two of the processors that it may use."""
     os.sched_setaffinity(0, sorted(os.sched_getaffinity(0))[:2])
 
 
@@ -368,6 +362,16 @@ def answer_of(words, **options):
         process.communicate()
         raise
     return process.returncode, output
+
+
+def compiled(compiler, words, made, what, **options):
+    """The program that a compiler makes, or why there is none."""
+    if compiler.gap:
+        return compiler
+    answer = subprocess.run([*compiler.words, *words], stdout=sys.stderr, **options)
+    if answer.returncode != 0:
+        return Program(gap=Gap(f"{what} ended with status {answer.returncode}"))
+    return Program((made,))
 
 
 def status_of(process):
@@ -399,8 +403,6 @@ def files_in_memory(room):
 
 
 class Bench:
-    """What one bench measures with: its programs, a folder, and the rows that it adds."""
-
     def __init__(self, module, options, folder, report):
         self.name = module.__name__
         self.builds = getattr(module, "BUILDS", {})
@@ -430,18 +432,15 @@ class Bench:
 
     def rust(self, source):
         """The program of a source in Rust, from its path in bench/."""
-        compiler = found_tool("rustc")
-        if compiler.gap:
-            return compiler
         target = self.folder / source.replace("/", "_").removesuffix(".rs")
-        words = [*compiler.words, "-O", "-o", target, HERE / source]
-        answer = subprocess.run(words, stdout=sys.stderr)
-        if answer.returncode != 0:
-            return Program(gap=Gap(f"rustc {source} ended with status {answer.returncode}"))
-        return Program((target,))
+        words = ["-O", "-o", target, HERE / source]
+        return compiled(found_tool("rustc"), words, target, f"rustc {source}")
 
-    def rust_over(self, crate, source, features=()):
-        """The program of a source in Rust over a crate of Debian's, which is a feature of it."""
+    def rust_over(self, crate, source, features=(), beside=""):
+        """The program of a source in Rust over a crate of Debian's, which is a feature of it.
+
+        `beside` is a line of Cargo.toml for one more crate.
+        """
         cargo, compiler = found_tool("cargo"), found_tool("rustc")
         if gap := gap_of(cargo, compiler):
             return Program(gap=gap)
@@ -452,8 +451,8 @@ class Bench:
         name = f"{source.replace('/', '_').removesuffix('.rs')}_{crate}"
         folder = self.folder / name
         make_project(
-            folder, name=name, source=str(HERE / source), crate=crate, features=list(features),
-            registry=str(self.options.registry),
+            folder, beside, name=name, source=str(HERE / source), crate=crate,
+            features=list(features), registry=str(self.options.registry),
         )
         words = [*cargo.words, "build", "--quiet", "--release", "--offline", "--target-dir", "out"]
         process = subprocess.Popen(words, cwd=folder, stdout=sys.stderr, start_new_session=True)
@@ -463,6 +462,24 @@ class Bench:
         except Failure as failure:
             return Program(gap=Gap(f"cargo build of {source} over {crate}: {failure}"))
         return Program((folder / "out" / "release" / name,))
+
+    @functools.cached_property
+    def library(self):
+        """The folder that embed/build makes, and why there is none, or None."""
+        folder = self.folder / "varukoni"
+        status, _ = answer_of([HERE.parent / "embed" / "build", "--to", folder])
+        return folder, Gap(f"embed/build ended with status {status}") if status else None
+
+    def c_over(self, library, source):
+        """The program of a source in C over a library of embed/build, from its path in bench/."""
+        compiler = found_tool("gcc")
+        if compiler.gap:
+            return compiler
+        folder, gap = self.library
+        target = self.folder / source.replace("/", "_").removesuffix(".c")
+        words = ["-std=gnu11", "-O2", f"-I{folder / 'include'}", "-o", target, HERE / source,
+                 folder / "lib" / f"lib{library}.a", "-pthread"]
+        return Program(gap=gap) if gap else compiled(compiler, words, target, f"gcc {source}")
 
     def node(self, source):
         """Node with a source, from its path in bench/."""
@@ -509,18 +526,32 @@ class Bench:
     def in_turns(self, jobs, turns=None):
         """Runs each job of a dict once a turn, so that what else runs meets all of them alike.
 
-        Returns a series for each; one whose run fails isn't run again.
+        Returns a series for each; one whose run fails isn't run again. With --beside the programs
+        of another commit take turns with these, and how the two compare is shown.
         """
-        series = {name: Series(job.program.gap, gnu_time().gap) for name, job in jobs.items()}
+        twins = {name: twin for name, job in jobs.items() if (twin := self.twin(job))}
+        every = {**jobs, **{(name, "beside"): twin for name, twin in twins.items()}}
+        series = {name: Series(job.program.gap, gnu_time().gap) for name, job in every.items()}
         for _ in range(turns or self.turns):
-            for name, job in jobs.items():
+            for name, job in every.items():
                 if series[name].gap:
                     continue
                 try:
                     series[name].runs.append(self.run_once(job))
                 except Failure as failure:
                     series[name].gap = Gap(f"{job}: {failure}")
-        return series
+        for name in twins:
+            beside = ratio(series[name].seconds, series[name, "beside"].seconds)
+            self.shows(f"{jobs[name]}, beside {self.options.beside}", beside, "times")
+        return {name: series[name] for name in jobs}
+
+    def twin(self, job):
+        """The same job of another commit's program, where --beside has one."""
+        if self.options.beside is None or not job.program.words:
+            return None
+        program = self.options.beside / pathlib.Path(job.program.words[0]).name
+        words = (program, *job.program.words[1:])
+        return dataclasses.replace(job, program=Program(words)) if program.is_file() else None
 
     # Figures
 

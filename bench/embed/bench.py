@@ -7,15 +7,12 @@ calls take, and the sizes of what is built. embed/build makes the library first.
 the best runs.
 """
 
-import subprocess
 import sys
 
-from measure import (
-    HERE, Gap, Program, Values, answer_of, files_in_memory, found_tool, prints, ratio, scaled,
-)
+from measure import HERE, Gap, Program, Values, compiled, files_in_memory, found_tool, ratio, scaled
+from steps.bench import SHAPES, step_file
 
 TURNS = 5
-EMBED = HERE.parent / "embed"
 POSTS = 500_000
 LINES = 2 * POSTS + 3
 # Calls that are timed alone, with how many of each.
@@ -29,20 +26,18 @@ SIZES = {"archive": "lib/libvarukoni.a", "shared object": "lib/libvarukoni.so",
 
 
 def run(bench):
-    folder = bench.folder / "varukoni"
-    status, _ = answer_of([EMBED / "build", "--to", folder])
-    gap = Gap(f"embed/build ended with status {status}") if status != 0 else None
+    folder, gap = bench.library
     programs = {
         "program": (bench.messagehub, "steps"),
-        "C": (built_in_c(bench, folder, "lines", gap),),
+        "C": (bench.c_over("varukoni", "embed/lines.c"),),
         "Rust": (built_in_rust(bench, folder, gap),),
         "Node": (found("node", gap), HERE / "embed" / "lines.mjs", folder),
         "Python": (Program((sys.executable, "-B"), gap), HERE / "embed" / "lines.py", folder),
     }
-    for name, shape in (("in turn", in_turn), ("posts first", posts_first)):
+    for name, shape in SHAPES.items():
         with files_in_memory(room=200 * LINES) as place:
             report(bench, name, bench.in_turns(jobs_of(place, programs, shape)))
-    time_calls(bench, built_in_c(bench, folder, "calls", gap))
+    time_calls(bench, bench.c_over("varukoni", "embed/calls.c"))
     for name, path in SIZES.items():
         there = not gap and (folder / path).is_file()
         why = gap or Gap(f"the {name}", is_failure=False)
@@ -54,36 +49,17 @@ def found(tool, gap):
     return Program(gap=gap) if gap else found_tool(tool)
 
 
-def built_in_c(bench, folder, name, gap):
-    compiler = found("gcc", gap)
-    if compiler.gap:
-        return compiler
-    target = bench.folder / f"embed_{name}"
-    words = [*compiler.words, "-std=gnu11", "-O2", f"-I{folder / 'include'}", "-o", target,
-             HERE / "embed" / f"{name}.c", folder / "lib" / "libvarukoni.a", "-pthread"]
-    if subprocess.run(words, stdout=sys.stderr, check=False).returncode != 0:
-        return Program(gap=Gap(f"{name}.c can't be built"))
-    return Program((target,))
-
-
 def built_in_rust(bench, folder, gap):
-    cargo = found("cargo", gap)
-    if cargo.gap:
-        return cargo
     target = bench.folder / "embed_rust"
-    words = [*cargo.words, "build", "--release", "--offline", "--quiet", "--example", "lines",
+    words = ["build", "--release", "--offline", "--quiet", "--example", "lines",
              "--target-dir", target]
-    answer = subprocess.run(words, stdout=sys.stderr, cwd=folder / "rust", check=False)
-    if answer.returncode != 0:
-        return Program(gap=Gap("the Rust example can't be built"))
-    return Program((target / "release" / "examples" / "lines",))
+    made = target / "release" / "examples" / "lines"
+    return compiled(found("cargo", gap), words, made, "cargo build", cwd=folder / "rust")
 
 
 def jobs_of(place, programs, shape):
     source = place / "lines"
-    lines, outcomes = shape(POSTS)
-    source.write_bytes(b"agent -\nchannel 0\nstart 1\n" + lines)
-    check = prints(b"agent 0\nends 0 1\nstarted\n" + outcomes)
+    check = step_file(source, shape, POSTS)
     return {
         name: program.whole(*words, source=source, check=check)
         for name, (program, *words) in programs.items()
@@ -103,25 +79,3 @@ def time_calls(bench, program):
         bench.shows(NAMES[name], scaled(series.seconds, 1e9 / CALLS[name]), "ns")
     (stack,) = bench.in_turns({"stack": program.job("stack", told=[None])}, turns=1).values()
     bench.at_most(262_144, "stack", scaled(stack.told(1)), "bytes")
-
-
-def body(number):
-    return b'{"n":%d,"s":"abcde"}' % number
-
-
-def in_turn(posts):
-    """So many posts, each with its take behind it, and their outcome lines."""
-    lines = b"".join(b"post 0 - %s\ntake 1\n" % body(number) for number in range(posts))
-    outcomes = b"".join(
-        b"accepted 0:%d\ngot 0:%d from 0 %s\n" % (number, number, body(number))
-        for number in range(posts)
-    )
-    return lines, outcomes
-
-
-def posts_first(posts):
-    """So many posts and then their takes, and their outcome lines."""
-    lines = b"".join(b"post 0 - %s\n" % body(number) for number in range(posts))
-    accepted = b"".join(b"accepted 0:%d\n" % number for number in range(posts))
-    got = b"".join(b"got 0:%d from 0 %s\n" % (number, body(number)) for number in range(posts))
-    return lines + b"take 1\n" * posts, accepted + got

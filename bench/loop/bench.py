@@ -1,11 +1,11 @@
 """Times the event loop: its deliveries, its turns in which no end has anything, and round trips.
 
 The loop holds 1, 10, 100, 1,000 and 10,000 enabled ports, of which one is busy, and 10,000 of which
-10, 100 and 1,000 are. Messages are posted 1,000 at a time and then delivered in as many turns, which
-are timed. Beside it Node's MessagePorts in a Worker that listens at as many; it sleeps while the
-messages are posted, and is timed from there to the last of them. A turn in which no end has anything
-asks every enabled end once. Messages there and back go between two loops on two threads, which park
-where they have nothing to deliver; one holds a single port, and the other one or 10,000.
+10, 100 and 1,000 are. Messages are posted 1,000 at a time and then delivered in as many turns,
+which are timed. Beside it Node's MessagePorts in a Worker that listens at as many; it sleeps while
+the messages are posted, and is timed from there to the last of them. A turn in which no end has
+anything asks every enabled end once. Messages there and back go between two loops on two threads,
+which park where they have nothing to deliver; one holds a single port, and the other one or 10,000.
 
 Beside it too the channels of Rust's library in one thread, with no loop: what their takes cost more
 where 1,000 of them are busy, or all are asked in vain, is what memory costs that is seldom reached.
@@ -16,9 +16,7 @@ much longer Node takes.
 
 from measure import ratio, scaled
 
-BUILDS = {
-    "loop": ["hub_envelope", "hub_life", "hub_loop", "hub_ports", "hub_queue"]
-}
+BUILDS = {"loop": ["hub_envelope", "hub_life", "hub_loop", "hub_ports", "hub_queue"]}
 SIZES = [1, 10, 100, 1_000, 10_000]
 BUSY = [10, 100, 1_000]
 MESSAGES = 200_000
@@ -55,7 +53,6 @@ def run(bench):
     for ports, turns in IDLE.items():
         an_end = scaled(runs[f"idle channels {ports}"].seconds, 1e9 / turns / ports)
         bench.shows(f"channels of Rust, idle, {ports:,} ports, an end", an_end, "ns")
-    for ports, turns in IDLE.items():
         an_end = scaled(runs[f"idle {ports}"].seconds, 1e9 / turns / ports)
         name = f"idle, {ports:,} ports, an end"
         if ports == max(IDLE):
@@ -85,16 +82,12 @@ def jobs_of(bench):
     channels = bench.rust("loop/reference.rs")
     jobs = {}
     for ports, busy in shapes():
-        jobs[f"deliveries {ports} {busy}"] = program.job(
-            "deliveries", ports, busy, MESSAGES, told=[MESSAGES]
-        )
-        jobs[f"channels {ports} {busy}"] = channels.job(
-            "deliveries", ports, busy, MESSAGES, told=[MESSAGES]
-        )
+        for name, own in (("deliveries", program), ("channels", channels)):
+            words = "deliveries", ports, busy, MESSAGES
+            jobs[f"{name} {ports} {busy}"] = own.job(*words, told=[MESSAGES])
         if busy == 1:
-            jobs[f"Node {ports}"] = node.job(
-                ports, busy, MESSAGES_OF_NODE, told=[MESSAGES_OF_NODE]
-            )
+            words = ports, busy, MESSAGES_OF_NODE
+            jobs[f"Node {ports}"] = node.job(*words, told=[MESSAGES_OF_NODE])
     for ports, turns in IDLE.items():
         jobs[f"idle {ports}"] = program.job("idle", ports, 1, turns, told=[turns])
         jobs[f"idle channels {ports}"] = channels.job("idle", ports, 1, turns, told=[turns])

@@ -16,12 +16,8 @@ MOST = 65_535
 ENDS = 65_536
 # How much the answers tell of where each end in turn is one of a few, and where it is one of all.
 TOLD_OVER = {
-    "pass": (500_000, 500_000),
-    "post": (250_000, 250_000),
-    "look": (1, ENDS),
-    "take": (0, 0),
-    "close": (1, ENDS),
-    "sweep": (0, 0),
+    "pass": (500_000, 500_000), "post": (250_000, 250_000), "look": (1, ENDS), "take": (0, 0),
+    "close": (1, ENDS), "sweep": (0, 0),
 }
 
 

@@ -66,7 +66,7 @@ def report_each(bench, runs, title, name, count, peers):
 def jobs_of(bench):
     ports, mpsc = bench.built("ports"), bench.rust("queue/reference.rs")
     mpsc_trips = bench.rust("ports/reference.rs")
-    node, node_channels = bench.node("queue/reference.mjs"), bench.node("ports/reference.mjs")
+    node = bench.node("ports/reference.mjs")
 
     def right(count):
         return [count, count * BYTES]
@@ -75,12 +75,12 @@ def jobs_of(bench):
         "posts": ports.job("posts", MESSAGES, told=[*right(MESSAGES), ANY]),
         "mpsc of texts": mpsc.job(1, MESSAGES, told=right(MESSAGES)),
         "mpsc of envelopes": mpsc.job(1, MESSAGES, "envelope", told=right(MESSAGES)),
-        "Node, texts": node.job(MESSAGES, told=right(MESSAGES)),
-        "Node, values": node.job(MESSAGES, "value", told=right(MESSAGES)),
+        "Node, texts": node.job("texts", MESSAGES, told=right(MESSAGES)),
+        "Node, values": node.job("values", MESSAGES, told=right(MESSAGES)),
         "trips": ports.job("trips", TRIPS, told=[*right(TRIPS), ANY]),
         "trips, mpsc": mpsc_trips.job(TRIPS, told=right(TRIPS)),
-        "trips, Node": node_channels.job("trips", TRIPS, told=right(TRIPS)),
+        "trips, Node": node.job("trips", TRIPS, told=right(TRIPS)),
         "ports": ports.job("ports", SENT, told=[*right(SENT), ANY]),
-        "ports, Node": node_channels.job("ports", SENT_BY_NODE, told=right(SENT_BY_NODE)),
+        "ports, Node": node.job("ports", SENT_BY_NODE, told=right(SENT_BY_NODE)),
         "moves": ports.job("moves", MOVES, told=[MOVES, ANY, ANY]),
     }

@@ -1,9 +1,9 @@
 // Messages through Node's MessageChannel, between the main thread and a Worker that has one of its
-// ports: with `trips` so many there and back, and with `ports` so many posts with one port each,
-// which the Worker closes. A message is the text. The channels whose ports are sent are made before
-// the first post. Both threads read one clock. Prints how long it took, in microseconds, and how
-// many messages and how many bytes of text came.
-// usage: node reference.mjs trips|ports COUNT
+// ports: so many `texts`, or `values` that the text stands for; with `trips` so many there and back;
+// and with `ports` so many posts with one port each, which the Worker closes. The channels whose
+// ports are sent are made before the first post. Both threads read one clock. Prints how long it
+// took, in microseconds, and how many messages and how many bytes of text came.
+// usage: node reference.mjs texts|values|trips|ports COUNT
 import { MessageChannel, Worker, isMainThread, parentPort, workerData } from "node:worker_threads";
 
 const TEXT = '{"a":1}';
@@ -25,22 +25,26 @@ function answerAll(port) {
   port.on("message", (text) => port.postMessage(text));
 }
 
-function sendAll(port, count) {
-  const channels = Array.from({ length: count }, () => new MessageChannel());
+function sendAll(port, count, kind) {
+  const message = kind === "values" ? JSON.parse(TEXT) : TEXT;
+  const channels = Array.from(
+    { length: kind === "ports" ? count : 0 }, () => new MessageChannel(),
+  );
   const begin = process.hrtime.bigint();
   for (const { port2: sent } of channels) port.postMessage({ text: TEXT, sent }, [sent]);
+  for (let posted = channels.length; posted < count; posted++) port.postMessage(message);
   port.once("message", ({ end, bytes }) => {
     console.log(`${(end - begin) / 1000n} ${count} ${bytes}`);
     port.close();
   });
 }
 
-function closeAll(port, count) {
+function takeAll(port, count) {
   let left = count;
   let bytes = 0;
-  port.on("message", ({ text, sent }) => {
-    bytes += text.length;
-    sent.close();
+  port.on("message", (message) => {
+    bytes += message.a === 1 ? TEXT.length : (message.text ?? message).length;
+    message.sent?.close();
     if (--left > 0) return;
     port.postMessage({ end: process.hrtime.bigint(), bytes });
     port.close();
@@ -54,10 +58,10 @@ if (isMainThread) {
     workerData: { kind, port: port2, count },
     transferList: [port2],
   });
-  worker.once("message", () => (kind === "trips" ? askAll : sendAll)(port1, count));
+  worker.once("message", () => (kind === "trips" ? askAll : sendAll)(port1, count, kind));
 } else {
   const { kind, port, count } = workerData;
   if (kind === "trips") answerAll(port);
-  else closeAll(port, count);
+  else takeAll(port, count);
   parentPort.postMessage("ready");
 }

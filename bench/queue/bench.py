@@ -54,7 +54,7 @@ def run(bench):
         channels[crate] = bench.rust_over(crate, "queue/reference.rs", features)
     report(bench, "1 to 1", BOUNDS, bench.in_turns({
         **jobs_of(mailbox, channels, alone, posters=1),
-        **jobs_of_one(mailbox, bench.node("queue/reference.mjs")),
+        **jobs_of_one(mailbox, bench.node("ports/reference.mjs")),
     }))
     four = bench.in_turns(jobs_of(mailbox, channels, alone, posters=4))
     report(bench, "4 to 1", BOUNDS_OF_FOUR, four)
@@ -66,9 +66,7 @@ def jobs_of(mailbox, channels, alone, posters):
     jobs = {"mailbox": mailbox.job(posters, each, told=[*RIGHT, ANY], held=held)}
     for name, channel in channels.items():
         jobs[f"{name} of texts"] = channel.job(posters, each, told=RIGHT, held=held)
-        jobs[f"{name} of envelopes"] = channel.job(
-            posters, each, "envelope", told=RIGHT, held=held
-        )
+        jobs[f"{name} of envelopes"] = channel.job(posters, each, "envelope", told=RIGHT, held=held)
     jobs["the library's queue"] = alone.job(posters, each, told=RIGHT, held=held)
     jobs[COUNTED] = alone.job(posters, each, "counted", told=RIGHT, held=held)
     return jobs
@@ -78,8 +76,8 @@ def jobs_of_one(mailbox, node):
     """What is timed with one poster only."""
     return {
         "adopted 1,000 times": mailbox.job(1, MESSAGES, 1000, told=[*RIGHT, ANY], held=True),
-        "Node, texts": node.job(MESSAGES, told=RIGHT),
-        "Node, values": node.job(MESSAGES, "value", told=RIGHT),
+        "Node, texts": node.job("texts", MESSAGES, told=RIGHT),
+        "Node, values": node.job("values", MESSAGES, told=RIGHT),
     }
 
 

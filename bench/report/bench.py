@@ -15,13 +15,13 @@ TOOLS = HERE.parent / "tools"
 
 
 def run(bench):
-    judge = Program((sys.executable, TOOLS / "judge"))
+    judge = Program((sys.executable, "-B", TOOLS / "judge"))
     with files_in_memory(room=100 * sum(COUNTS)) as folder:
         # It stands in for the program, so that the report is timed alone.
         content = folder / "content"
         content.write_text("#!/bin/sh\necho clean\n", "utf-8")
         content.chmod(0o755)
-        report = Program((sys.executable, TOOLS / "report", "--program", content))
+        report = Program((sys.executable, "-B", TOOLS / "report", "--program", content))
         jobs = {}
         for count in COUNTS:
             source = folder / str(count)
@@ -41,7 +41,6 @@ def run(bench):
 
 
 def is_right(output):
-    """Checks that the report says so."""
     with open(output, "rb") as file:
         if not file.readline().startswith(b"right: "):
             raise Failure("the report isn't that all is right")

@@ -12,13 +12,9 @@ BUILDS = {"roster": ["hub_core", "hub_envelope"]}
 SEES = 1_000_000
 # The words of each run, and how much its answers have to tell of.
 RUNS = {
-    ("cast", 100, 10_000): 990_000,
-    ("cast", 10_000, 100): 999_900,
-    ("join", 10_000, 0): 10_000,
-    ("join", 20_000, 0): 20_000,
-    ("join", 40_000, 0): 40_000,
-    ("see", 2, 0): SEES,
-    ("see", 65_536, 0): SEES,
+    ("cast", 100, 10_000): 990_000, ("cast", 10_000, 100): 999_900,
+    **{("join", count, 0): count for count in (10_000, 20_000, 40_000)},
+    ("see", 2, 0): SEES, ("see", 65_536, 0): SEES,
 }
 
 

@@ -18,7 +18,7 @@ def run(bench):
         "Node": (bench.node("steps/reference.mjs"),),
         "Rust": (bench.rust("steps/reference.rs"),),
     }
-    for shape_name, shape in (("in turn", in_turn), ("posts first", posts_first)):
+    for shape_name, shape in SHAPES.items():
         with files_in_memory(room=50 * sum(COUNTS)) as folder:
             runs = bench.in_turns(jobs_of(folder, programs, shape))
         half = None
@@ -33,13 +33,9 @@ def jobs_of(folder, programs, shape):
     jobs = {}
     for count in COUNTS:
         source = folder / str(count)
-        lines, outcomes = shape(count // 2)
-        source.write_bytes(b"agent -\nchannel 0\nstart 1\n" + lines)
-        check = prints(b"agent 0\nends 0 1\nstarted\n" + outcomes)
+        check = step_file(source, shape, count // 2)
         for name, (program, *words) in programs.items():
-            jobs[name, count] = program.whole(
-                *words, source=source, check=check, with_memory=True
-            )
+            jobs[name, count] = program.whole(*words, source=source, check=check, with_memory=True)
     return jobs
 
 
@@ -79,3 +75,13 @@ def posts_first(posts):
     accepted = b"".join(b"accepted 0:%d\n" % number for number in range(posts))
     got = b"".join(b"got 0:%d from 0 %s\n" % (number, body(number)) for number in range(posts))
     return lines + b"take 1\n" * posts, accepted + got
+
+
+SHAPES = {"in turn": in_turn, "posts first": posts_first}
+
+
+def step_file(path, shape, posts):
+    """Writes a file of so many posts and takes, and gives the check of what is printed for it."""
+    lines, outcomes = shape(posts)
+    path.write_bytes(b"agent -\nchannel 0\nstart 1\n" + lines)
+    return prints(b"agent 0\nends 0 1\nstarted\n" + outcomes)

@@ -22,9 +22,9 @@ LATE = 6
 
 
 def run(bench):
-    view = Program((sys.executable, HERE.parent / "tools" / "view"))
+    view = Program((sys.executable, "-B", HERE.parent / "tools" / "view"))
     chromium = found_tool("chromium")
-    browser = Program((sys.executable, HERE / "view" / "load.py"), chromium.gap)
+    browser = Program((sys.executable, "-B", HERE / "view" / "load.py"), chromium.gap)
     with files_in_memory(room=100_000_000) as folder:
         source, page = folder / "logs", folder / "run.html"
         source.write_bytes(logs())

@@ -9,12 +9,10 @@ import statistics
 import sys
 
 ROOT = pathlib.Path(__file__).resolve().parents[2]
-# Nothing is to be written beside the benches.
-sys.dont_write_bytecode = True
 sys.path += [str(ROOT / "tests"), str(ROOT / "tools")]
 
-import command  # noqa: E402
-from browser import Browser  # noqa: E402
+import command
+from browser import Browser
 
 NAME = "bench/view/load.py"
 
