@@ -65,7 +65,6 @@ class Browser:
         self.process.wait()
 
     def message(self, until):
-        """The next message of the browser."""
         while b"\0" not in self.rest:
             left = until - time.monotonic()
             if left <= 0 or not select.select([self.reader], [], [], left)[0]:
@@ -109,8 +108,6 @@ class Browser:
 
 
 class Page:
-    """A page that is open in a browser."""
-
     def __init__(self, browser, session):
         self.browser, self.session = browser, session
 
@@ -131,7 +128,6 @@ class Page:
             events.append(self.browser.message(until))
 
     def value(self, expression):
-        """What an expression, or a promise that it gives, is in the page."""
         found = self.call("Runtime.evaluate", expression=expression, returnByValue=True,
                           awaitPromise=True)
         if "exceptionDetails" in found:
@@ -139,7 +135,6 @@ class Page:
         return found["result"].get("value")
 
     def wait_until(self, expression):
-        """Waits until an expression is true in the page."""
         until = time.monotonic() + SECONDS
         while not self.value(expression):
             if time.monotonic() > until:
@@ -147,7 +142,6 @@ class Page:
             time.sleep(0.02)
 
     def press(self, key, shift=False):
-        """Presses a key, as a user would."""
         code = {"key": key, "code": key, "windowsVirtualKeyCode": KEYS[key],
                 "modifiers": 8 if shift else 0}
         if key == "Enter":
@@ -156,13 +150,11 @@ class Page:
         self.call("Input.dispatchKeyEvent", type="keyUp", **code)
 
     def point(self, x, y, click=False):
-        """Moves the pointer to a place of what is seen, and clicks there."""
         self.call("Input.dispatchMouseEvent", type="mouseMoved", x=x, y=y)
         for kind in ("mousePressed", "mouseReleased") if click else ():
             self.call("Input.dispatchMouseEvent", type=kind, x=x, y=y, button="left", clickCount=1)
 
     def tap(self, x, y):
-        """Touches a place of what is seen, as a finger would."""
         self.call("Emulation.setTouchEmulationEnabled", enabled=True)
         self.call("Input.dispatchTouchEvent", type="touchStart", touchPoints=[{"x": x, "y": y}])
         self.call("Input.dispatchTouchEvent", type="touchEnd", touchPoints=[])

@@ -6,6 +6,7 @@
 // whether it is a notice or nothing that a take finds, are counted here.
 import { BroadcastChannel, MessageChannel, receiveMessageOnPort } from 'node:worker_threads';
 import { spawnSync } from 'node:child_process';
+import { drawnValue, picked, randomOf } from './record/drawing.mjs';
 
 const AGENTS = 3;
 const MAX_HELD = 40;
@@ -13,15 +14,6 @@ const MAX_MEMBERS = 12;
 const MAX_PORTS = 16;
 const NAMES = ['news', 'a "name"', ''];
 const MAX_HOPS = 4;
-
-// A small generator with a seed, so that a difference can be seen again.
-function randomOf(seed) {
-  let state = seed >>> 0;
-  return (below) => {
-    state = (Math.imul(state, 1664525) + 1013904223) >>> 0;
-    return Math.floor((state / 2 ** 32) * below);
-  };
-}
 
 // The text in which the program prints a body: the keys of these objects are plain letters.
 function compact(value) {
@@ -91,7 +83,7 @@ class Run {
   }
 
   pick(items) {
-    return items.length === 0 ? undefined : items[this.random(items.length)];
+    return picked(this.random, items);
   }
 
   held() {
@@ -119,7 +111,7 @@ class Run {
   cast() {
     const from = this.pick(this.members());
     if (!from) return;
-    const body = this.value(0);
+    const body = drawnValue(this.random);
     let outcome = 'cast';
     try {
       from.port.postMessage({ body, numbers: [], ports: [] });
@@ -173,20 +165,6 @@ class Run {
     }
   }
 
-  value(depth) {
-    switch (this.random(depth > 2 ? 4 : 6)) {
-      case 0: return null;
-      case 1: return this.random(2) === 0;
-      case 2: return this.random(2_000_000) - 1_000_000;
-      case 3: return 'a"\\\u00e9\u{1f600}\n'.slice(0, this.random(8)).toWellFormed();
-      case 4: return Array.from({ length: this.random(4) }, () => this.value(depth + 1));
-      default: {
-        const member = () => [`k${this.random(5)}`, this.value(depth + 1)];
-        return Object.fromEntries(Array.from({ length: this.random(3) }, member));
-      }
-    }
-  }
-
   // One post passes so many queues that were left; the others are passed before.
   hop(from, to) {
     for (; to.mailbox.newest() - to.stand > MAX_HOPS; to.stand += 1) {
@@ -202,7 +180,7 @@ class Run {
     const may_go = (end) => end.agent === from.agent && end !== from && end !== to && !end.is_shut;
     const drawn = this.held().filter((end) => may_go(end) && this.random(8) === 0);
     const listed = drawn.slice(0, MAX_PORTS);
-    const body = this.value(0);
+    const body = drawnValue(this.random);
     this.hop(from, to);
     const list = listed.map((end) => end.number).join(',') || '-';
     const line = `post ${from.number} ${list} ${compact(body)}`;

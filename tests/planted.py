@@ -36,9 +36,9 @@ def kinds_of(text, source=None):
 
 
 def kinds_of_simulated(fault):
-    """What is found in simulated runs with a fault, up to the first finding, and how many there
-    were. The fault stays for good, so this takes a process of its own."""
-    wrong.FAULTS[fault]()
+    """What is found in simulated runs with a fault, up to the first finding. The fault stays for
+    good, so this takes a process of its own."""
+    wrong.plant(fault)
     for seed in range(MOST_SEEDS if fault in SHOWN else FEW_SEEDS):
         source = generator.make(seed)
         try:
@@ -67,3 +67,7 @@ class Planted(collections.Counter):
         missing = {kind: self[kind] for kind in changes.PLANTS if self[kind] < floor}
         case.assertEqual(missing, {}, "too few were planted")
         case.says(sum(self.values()), "planted faults", floor * len(changes.PLANTS))
+
+
+if __name__ == "__main__":
+    print(*sorted(kinds_of_simulated(sys.argv[1])))

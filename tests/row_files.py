@@ -86,7 +86,6 @@ def table(front, given, lines):
 
 
 def rows_in(mode, head, lines):
-    """The rows that stand below a head line."""
     name, origin = head
     shows = list(itertools.takewhile(lambda it: it.startswith("// "), lines))
     rest = lines[len(shows):]
@@ -109,7 +108,6 @@ def rows_in(mode, head, lines):
 
 
 def read(path):
-    """The rows of a file, in its order."""
     mode, found = path.parent.name, []
     parts = re.split(r"^(=== .*)\n", path.read_text(encoding="utf-8"), flags=re.MULTILINE)
     if any(line and not line.startswith("// ") for line in parts[0].split("\n")):
@@ -127,11 +125,9 @@ def read(path):
 
 
 def rows(mode):
-    """All rows of a mode, by name."""
     found = [row for path in sorted((ROWS / mode).glob("*.rows")) for row in read(path)]
     return sorted(found, key=lambda row: row.name)
 
 
 def row(mode, name):
-    """The row of that name."""
     return next(row for row in rows(mode) if row.name == name)

@@ -3,11 +3,9 @@
 import itertools
 import os
 import pathlib
-import shutil
-import subprocess
+import re
 import sys
 import tempfile
-import time
 import types
 
 import support
@@ -76,20 +74,16 @@ pub fn unbounded<M>() -> (Sender<M>, Receiver<M>) {
 
 
 class Benches(support.TestCase):
-    """What a run that goes wrong, a bound that isn't met and a missing tool do."""
-
-    def setUp(self):
-        folder = tempfile.TemporaryDirectory(prefix="some benches ")
-        self.addCleanup(folder.cleanup)
-        self.folder = pathlib.Path(folder.name)
-
     def play(self, name, text):
-        self.put(self.folder / f"bench_{name}", text)
+        self.write(f"bench_{name}", text, 0o755)
 
-    def put(self, path, text):
-        path.parent.mkdir(parents=True, exist_ok=True)
-        path.write_text(text, "utf-8")
-        path.chmod(0o755)
+    def path_with(self, own="path", **programs):
+        """A folder for PATH with these programs and Python."""
+        for name, text in programs.items():
+            self.write(f"{own}/{name}", text, 0o755)
+        (self.folder / own).mkdir(exist_ok=True)
+        (self.folder / own / "python3").symlink_to(sys.executable)
+        return str(self.folder / own)
 
     def run_all(self, name, *words, **settings):
         words = [ALL, "--built", self.folder, "--turns=2", name, *words]
@@ -129,13 +123,22 @@ class Benches(support.TestCase):
                 self.assert_ends(found, 0 if is_met else 1, "nothing", *counts)
         self.says(len(BOUNDS), "times", 4)
 
+    def test_beside(self):
+        """The programs of another commit take turns, and each job is compared with its own."""
+        self.play("scripts", HEAD + RIGHT)
+        other = self.folder / "other"
+        self.write(other / "bench_scripts", HEAD + RIGHT.replace("10", "20"), 0o755)
+        found = self.run_all("scripts", "--beside", other)
+        self.assert_ends(found, 0, "nothing", 4, 0, 0)
+        row = rf"bench_scripts \w+ \d+, beside {re.escape(str(other))} +0\.5 times"
+        rows = len(re.findall(row, found.output.decode()))
+        self.assertEqual(rows, 6, found.output.decode())
+        self.says(rows, "jobs", 6)
+
     def test_tool_is_missing(self):
         """What needs it is left out by name, and the rest is timed."""
         self.play("gate", '#!/bin/sh\necho "700000 $(($1 * $2)) 0"\n')
-        path = self.folder / "path"
-        path.mkdir()
-        (path / "python3").symlink_to(sys.executable)
-        found = self.run_all("gate", PATH=str(path))
+        found = self.run_all("gate", PATH=self.path_with())
         self.assert_ends(found, 0, "rustc", 0, 0, 3)
         self.assertIn(b"4 threads, gate", found.output)
         self.says(3, "bounds")
@@ -146,14 +149,12 @@ class Benches(support.TestCase):
         self.play("queue_alone", alone)
         own = pathlib.Path(tempfile.mkdtemp(dir=self.folder))
         for crate in ("tokio-macros", *channels):
-            self.put(own / "registry" / f"{crate}-1.2.3" / "Cargo.toml", "")
+            self.write(own / "registry" / f"{crate}-1.2.3" / "Cargo.toml", "")
         for crate, text in {"mpsc": CHANNEL, **channels}.items():
             if text:
-                self.put(own / "built" / crate, text)
-        for name, text in {"cargo": CARGO, "rustc": RUSTC}.items():
-            self.put(own / "path" / name, text)
-        (own / "path" / "python3").symlink_to(sys.executable)
-        settings = {"PATH": str(own / "path"), "BUILT": str(own / "built")}
+                self.write(own / "built" / crate, text, 0o755)
+        path = self.path_with(own / "path", cargo=CARGO, rustc=RUSTC)
+        settings = {"PATH": path, "BUILT": str(own / "built")}
         return self.run_all("queue", "--registry", own / "registry", **settings)
 
     def test_crate_is_missing(self):
@@ -193,13 +194,12 @@ class Benches(support.TestCase):
                 self.assert_ends(found, failed, names, passed, failed, 3)
         self.says(len(BOUNDS_OF_QUEUE), "times", 2)
 
+    @support.needs("cargo")
+    @support.needs("rustc")
     def test_crate_is_built(self):
         """The real cargo builds a peer over a folder of sources, and asks no registry."""
-        for tool in ("cargo", "rustc"):
-            if shutil.which(tool) is None:
-                self.skipTest(f"{tool}, which is not on the PATH")
         for name, text in FLUME.items():
-            self.put(self.folder / "registry" / "flume-0.10.0" / name, text)
+            self.write(f"registry/flume-0.10.0/{name}", text)
         options = types.SimpleNamespace(turns=1, registry=self.folder / "registry")
         bench = measure.Bench(types.ModuleType("queue"), options, self.folder, measure.Report())
         peer = bench.rust_over("flume", "queue/reference.rs", ["select"])
@@ -212,39 +212,21 @@ class Benches(support.TestCase):
 
     def test_stopped(self):
         """What it has begun, a build and the toolchain, is stopped too, and it says so."""
-        path = self.folder / "path"
-        path.mkdir()
-        (path / "python3").symlink_to(sys.executable)
-        rt = f"#!/bin/sh\necho $$ > '{self.folder}/asked'\nexec sleep 300\n"
-        (path / "rt").write_text(rt, "utf-8")
-        (path / "rt").chmod(0o755)
+        path = self.path_with(rt=f"#!/bin/sh\necho $$ > '{self.folder}/asked'\nexec sleep 300\n")
         settings = {**os.environ, "PATH": f"{path}{os.pathsep}{os.defpath}"}
-        with subprocess.Popen(
-            [ALL, "core"], env={**settings, "TMPDIR": str(self.folder)},
-            stdout=subprocess.PIPE, stderr=subprocess.PIPE,
-        ) as process:
-            asked = self.folder / "asked"
-            for _ in range(1_000):
-                if asked.exists() and asked.read_text("utf-8"):
-                    break
-                time.sleep(0.05)
+        settings["TMPDIR"], asked = str(self.folder), self.folder / "asked"
+        words = [ALL, "core"]
+        with support.begun(words, lambda: support.has_text(asked), env=settings) as process:
             process.terminate()
             output, errors = process.communicate(timeout=60)
         self.assertEqual(process.returncode, 1, errors)
         self.assertIn(b"failed: stopped, not run to the end: core\n", output)
         self.assertTrue(output.endswith(LAST_LINES.format("nothing", 0, 1, 0).encode()), output)
         number = int(asked.read_text("utf-8"))
-        # Who takes in a process whose parent has ended may be late.
-        for _ in range(200):
-            if not pathlib.Path(f"/proc/{number}").exists():
-                break
-            time.sleep(0.05)
-        self.assertFalse(pathlib.Path(f"/proc/{number}").exists(), "the toolchain still runs")
+        self.assertFalse(support.is_running(number), "the toolchain still runs")
         self.assertEqual([it.name for it in self.folder.iterdir() if it.is_dir()], ["path"])
         self.says(1, "signal")
 
     def test_program_is_missing(self):
-        found = self.run_all("scripts")
-        self.assertEqual((found.output, found.status), (b"", 2))
-        self.assertIn(b"needs the program", found.errors)
+        self.assert_refused([ALL, "--built", self.folder, "scripts"], "needs the program")
         self.says(1, "call")

@@ -8,7 +8,6 @@ import pathlib
 import shutil
 import signal
 import subprocess
-import tempfile
 
 import support
 from support import ROOT, TESTS, outcome_of
@@ -40,8 +39,9 @@ WRONG = {
     "tools/release": [["--to"], ["--to", "/dev/null"]],
     "tools/steps-of": [["/nowhere/at/all"], ["--states", "x"]],
     "tools/why": [["/nowhere/at/all"], ["/"], ["a", "b"]],
-    "tools/view": [["/nowhere/at/all"], ["a", "b"]],
-    "tools/draw": [["/nowhere/at/all"], ["--most", "-1"]],
+    **{f"tools/{name}": [["/nowhere/at/all"], ["a", "b"], ["--script"], ["--most", "-1"],
+                         ["--script", "/nowhere/at/all"], ["--script", ROOT / "README.md"]]
+       for name in ("view", "draw")},
     "tools/build": [["--jobs", "0"]],
     "tools/clauses": [["no_such_crate"]],
     "tools/costs": [[], ["/dev/null"], ["/dev/null", "/nowhere/at/all"]],
@@ -54,6 +54,8 @@ READERS = {
 }
 # Those that refuse logs without an entry.
 NEED_ENTRIES = {"tools/account", "tools/report"}
+# Those that take several files, and say in which one a bad line stands.
+NAME_THEIR_INPUT = {"tools/account", "tools/draw", "tools/report", "tools/view"}
 # Scripts whose output is long before they end, and quick to come.
 TALKATIVE = [
     ["tools/clauses"], ["tests/all", "--list"], ["bench/all", "--list"],
@@ -82,31 +84,14 @@ class Ending(unittest.TestCase):
 
 
 def scripts():
-    """The names of all scripts."""
     paths = [path for folder in FOLDERS for path in sorted((ROOT / folder).iterdir())]
     paths = [path for path in paths if path.is_file() and os.access(path, os.X_OK)]
     return [str(path.relative_to(ROOT)) for path in paths]
 
 
 class Commands(support.TestCase):
-    """How the scripts answer for themselves."""
-
     def check_help(self, words, **options):
-        found = outcome_of([*words, "--help"], **options)
-        self.assertEqual((found.errors, found.status), (b"", 0))
-        self.assertGreater(found.output.count(b"\n"), 3, found.output)
-
-    def check_refusal(self, words):
-        found = outcome_of(words)
-        self.assertEqual((found.output, found.status), (b"", 2), found.errors)
-        self.assertIn(b"usage: ", found.errors)
-        self.assertNotIn(b"Traceback", found.errors)
-
-    def test_help(self):
-        for name in scripts():
-            with self.subTest(script=name):
-                self.check_help([ROOT / name])
-        self.says(len(scripts()), "scripts", 8)
+        self.assertGreater(self.ran([*words, "--help"], **options).count(b"\n"), 3)
 
     def test_version(self):
         """One version, whatever stands behind."""
@@ -123,7 +108,7 @@ class Commands(support.TestCase):
         for name in scripts():
             for words in [["--fly"], *WRONG.get(name, [])]:
                 with self.subTest(script=name, words=words):
-                    self.check_refusal([ROOT / name, *words])
+                    self.assert_refused([ROOT / name, *words], "usage: ")
                     count += 1
         self.assertLessEqual(set(WRONG), set(scripts()))
         self.says(count, "calls", 25)
@@ -137,18 +122,12 @@ class Commands(support.TestCase):
         self.says(len(LOCALES) * len(scripts()), "calls", 32)
 
     def test_paths_with_spaces(self):
-        with tempfile.TemporaryDirectory(prefix="a folder ") as folder:
-            for name in ["bench", "embed", "examples", "record", "tests", "tools"]:
-                shutil.copytree(ROOT / name, pathlib.Path(folder) / name)
-            for name in scripts():
-                with self.subTest(script=name):
-                    self.check_help([pathlib.Path(folder) / name])
-        self.says(len(scripts()), "scripts", 8)
+        for name in ["bench", "embed", "examples", "record", "tests", "tools"]:
+            shutil.copytree(ROOT / name, self.folder / name)
+        self.each(scripts(), "scripts", lambda it: self.check_help([self.folder / it]), 8)
 
 
 class Streams(support.TestCase):
-    """Streams that fail or are closed, and inputs that are empty, rubbish or cut."""
-
     def told(self, errors):
         """What was wrong, in one line, but for notes of the script and its usage."""
         lines = errors.decode().splitlines()
@@ -158,6 +137,13 @@ class Streams(support.TestCase):
     def redirected(self, words, redirection):
         settings = {**os.environ, "PYTHONUNBUFFERED": ""}
         return outcome_of(["sh", "-c", f'"$0" "$@" {redirection}', *words], env=settings, cwd=ROOT)
+
+    def run_to_nobody(self, words, folder):
+        reader, writer = os.pipe()
+        os.close(reader)
+        with open(writer, "wb") as output:
+            errors = subprocess.PIPE
+            return subprocess.run(words, stdout=output, stderr=errors, cwd=folder, timeout=60)
 
     def test_output_fails(self):
         for redirection, said in [("> /dev/full", "No space left"), (">&-", "is closed")]:
@@ -176,64 +162,54 @@ class Streams(support.TestCase):
     def test_pipe_is_closed(self):
         for name, *words in TALKATIVE:
             with self.subTest(script=name):
-                reader, writer = os.pipe()
-                os.close(reader)
-                found = subprocess.run(
-                    [ROOT / name, *words], stdout=writer, stderr=subprocess.PIPE, cwd=ROOT
-                )
-                os.close(writer)
+                found = self.run_to_nobody([ROOT / name, *words], ROOT)
                 self.told(found.stderr)
                 self.assertEqual(found.returncode, -signal.SIGPIPE)
         self.says(len(TALKATIVE), "calls", 9)
 
     def test_tests_end_with_their_pipe(self):
         """A test that runs when the pipe of tests/all is closed is ended too."""
-        with tempfile.TemporaryDirectory(prefix="some tests ") as folder:
-            folder = pathlib.Path(folder)
-            (folder / "test_ending.py").write_text(ENDING, "utf-8")
-            (folder / "test_endless.py").write_text(ENDLESS, "utf-8")
-            words = [TESTS / "all", "--folder", folder, "--program=/bin/true", "--jobs=2"]
-            reader, writer = os.pipe()
-            os.close(reader)
-            found = subprocess.run(
-                words, stdout=writer, stderr=subprocess.PIPE, cwd=folder, timeout=60
-            )
-            os.close(writer)
-            self.assertEqual((found.returncode, found.stderr), (-signal.SIGPIPE, b""))
-            number = int((folder / "begun").read_text("utf-8"))
-            self.assertFalse(pathlib.Path(f"/proc/{number}").exists(), "a test still runs")
+        self.write("test_ending.py", ENDING)
+        self.write("test_endless.py", ENDLESS)
+        words = [TESTS / "all", "--folder", self.folder, "--program=/bin/true", "--jobs=2"]
+        found = self.run_to_nobody(words, self.folder)
+        self.assertEqual((found.returncode, found.stderr), (-signal.SIGPIPE, b""))
+        number = int((self.folder / "begun").read_text("utf-8"))
+        self.assertFalse(pathlib.Path(f"/proc/{number}").exists(), "a test still runs")
         self.says(1, "call")
 
     def test_input_is_closed(self):
         for name, words in READERS.items():
             with self.subTest(script=name):
-                found = self.redirected([ROOT / name, *words], "<&-")
-                self.assertEqual((found.output, found.status), (b"", 2))
-                said = self.told(found.errors)
-                self.assertEqual(said, f"{name}: error: standard input is closed")
+                command = ["sh", "-c", '"$0" "$@" <&-', ROOT / name, *words]
+                self.assert_refused(command, f"\n{name}: error: standard input is closed\n")
         self.says(len(READERS), "calls", 7)
 
     def test_inputs(self):
         """Empty logs are clean, but nothing recorded is no verdict. Of what is no logs the first
         bad line is told, in one line."""
+        front = b"hublog 3\nagent 0\nput 1 0 0:0 - "
         rows = [
-            (b"", 0), (b"hublog 3\n", 0), (b"hublog 3", 0), (b"\n", 2), (b"hublog 3\n\n", 2),
-            (b"\xff\xfe\x00\n" * 3, 2), (b"hublog 3\nagent 0\nput 1 0 0:0 - " + b"[" * 9_000, 2),
-            (b"hublog 3\nagent 0\nput 1 0 0:0 - \"\\ud800\"\n", 2), (b"x" * 2_000_000, 2),
+            (b"", None), (b"hublog 3\n", None), (b"hublog 3", None),
+            (b"\n", "line 1: BadHeader"), (b"hublog 3\n\n", "line 2: BadLine"),
+            (b"\xff\xfe\x00\n" * 3, "line 1: BadHeader"), (b"hublog 9\n", "line 1: BadHeader"),
+            (b"x" * 2_000_000, "line 1: BadHeader"), (front + b"[" * 9_000, "line 3: BadLine"),
+            (front + b'"\\ud800"\n', "line 3: BadLine"), (front + b"1.5\n", "line 3: BadLine"),
+            (b"hublog 3\nput 0 0 0:0 - 1\n", "line 2: BadLine"),
         ]
         for name, words in READERS.items():
-            for text, status in rows:
+            for text, bad in rows:
                 with self.subTest(script=name, text=text[:40]):
                     found = outcome_of([ROOT / name, *words], text)
-                    is_refused = status == 0 and name in NEED_ENTRIES
-                    self.assertEqual(found.status, 2 if is_refused else status, found)
-                    said = self.told(found.errors)
-                    self.assertEqual("nothing is recorded" in said, is_refused)
-                    if status:
-                        lines = [it for it in (found.output + found.errors).decode().splitlines()
-                                 if ": Bad" in it]
-                        self.assertEqual(len(lines), 1, found)
-        self.says(len(rows) * len(READERS), "inputs", 63)
+                    is_refused = bad is None and name in NEED_ENTRIES
+                    self.assertEqual(found.status, 2 if bad or is_refused else 0, found)
+                    self.assertEqual(b"nothing is recorded" in found.errors, is_refused)
+                    if bad:
+                        (line,) = (found.output + found.errors).decode().splitlines()
+                        where = "<stdin>: " if name in NAME_THEIR_INPUT else ""
+                        said = bad if found.output else f"{name}: {where}{bad}"
+                        self.assertEqual(line, said)
+        self.says(len(rows) * len(READERS), "inputs", 84)
 
     def test_scripts(self):
         """What is no script is told as the program tells it."""

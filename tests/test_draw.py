@@ -6,10 +6,8 @@ picture, and each arrow goes down. The pictures in docs/ have to be those that t
 the runs in tests/runs, with the names of the scripts in examples/.
 """
 
-import pathlib
 import random
 import re
-import tempfile
 import xml.etree.ElementTree
 
 import support
@@ -82,14 +80,9 @@ def parsed(outcome):
 
 
 def legend(entries):
-    """The texts of the picture of these entries that stand below the lanes."""
     root = parsed(run(f"hublog 3\nagent 0\n{entries}"))
     foot = max(float(it.get("y2")) for it in root.iter(f"{SVG}line") if it.get("class") == "lane")
     return [words_of(it) for it in root.iter(f"{SVG}text") if float(it.get("y")) > foot]
-
-
-def is_red(group):
-    return any("fault" in it.get("class", "") for it in group)
 
 
 def many(count):
@@ -150,13 +143,10 @@ def strokes(root):
 
 
 def overlap(one, other):
-    return (
-        one[0] < other[2] and other[0] < one[2] and one[1] < other[3] and other[1] < one[3]
-    )
+    return one[0] < other[2] and other[0] < one[2] and one[1] < other[3] and other[1] < one[3]
 
 
 def complaints(root):
-    """What is wrong with the places of the texts."""
     _, _, width, height = map(float, root.get("viewBox").split())
     found, lines = [], sorted(strokes(root), key=lambda it: it[1])
     before = []
@@ -218,8 +208,6 @@ def random_logs(seed):
 
 
 class Pictures(support.TestCase):
-    """What a picture shows, and what is told beside it."""
-
     def look(self, label, text, wanted_arrows, notes=(), upwards=0, words=()):
         """Draws logs, and compares the picture with what is wanted of it."""
         with self.subTest(logs=label):
@@ -240,29 +228,21 @@ class Pictures(support.TestCase):
             "agent 0", 'end 1 0:0 with end 3 "port"', "end 3 0:0 1", "end 3 0:0",
             "end 3 0:1 notice, never got", "adopted end 3, queue 1", "closed end 2",
         ]
-        for words in wanted:
-            with self.subTest(words=words):
-                self.assertIn(words, shown)
+        self.each(wanted, "texts", lambda words: self.assertIn(words, shown))
         # Beside the outer lane there is no room for it.
         logs = "hublog 3\nagent 0\nadopted 65535 65535\nagent 1\n"
         long = "adopted end 65535, queue 65535"
         self.assertIn(long, texts(self.look("a long text", logs, [0, 0, 0])))
-        self.says(len(wanted) + 1, "texts")
 
     def test_names(self):
         """A script names agents and ends: queues first, then ports, then members."""
-        with tempfile.TemporaryDirectory(prefix="a folder ") as folder:
-            script = pathlib.Path(folder) / "a script"
-            script.write_text(SCRIPT, "utf-8")
-            shown = texts(self.look("names", PORT_SENT, [2, 1, 0], words=["--script", script]))
+        words = ["--script", self.write("a script", SCRIPT)]
+        shown = texts(self.look("names", PORT_SENT, [2, 1, 0], words=words))
         wanted = [
             "agent 0, window", "agent 1, worker", 'queue of agent 1 0:0 with q "port"', "q 0:0 1",
             "q 0:1 notice, never got", "adopted q, queue 1", "closed p\\u202e", "closed q",
         ]
-        for words in wanted:
-            with self.subTest(words=words):
-                self.assertIn(words, shown)
-        self.says(len(wanted), "names")
+        self.each(wanted, "names", lambda words: self.assertIn(words, shown))
 
     def test_legend(self):
         """What stands in the picture is explained, and nothing else."""
@@ -273,8 +253,7 @@ class Pictures(support.TestCase):
             (f"put 0 0 0:0 notice\n{arrow} notice\n", ["notice that"]),
             ("put 0 0 0:0 - 1\ngot 0 0 0:0 - 1\n", ["message: ", "message that waits"]),
             ("put 0 0 0:0 - 1\n", ["message: ", "put, and never got", "what is found wrong"]),
-            ("got 0 0 0:0 - 1\n",
-             ["message: ", "got, and put by nobody", "what is found wrong"]),
+            ("got 0 0 0:0 - 1\n", ["message: ", "got, and put by nobody", "what is found wrong"]),
             ("adopted 0 1\n", ["adopts "]),
             ("closed 0\n", ["closes "]),
         ]
@@ -292,7 +271,8 @@ class Pictures(support.TestCase):
             with self.subTest(kind=kind):
                 logs = f"hublog 3\nagent 0\n{ACCEPTED}agent 1\n{entries}"
                 root = parsed(run(logs))
-                red = [it for it in groups(root, "delivery") if is_red(it)]
+                red = [group for group in groups(root, "delivery")
+                       if any("fault" in it.get("class", "") for it in group)]
                 self.assertEqual([it.find(f"{SVG}title").text for it in red], [title])
                 self.assertIn(said, texts(root))
                 self.assertEqual(arrows(root)[2], kind == "Foreign")
@@ -340,23 +320,16 @@ class Pictures(support.TestCase):
 
 
 class Texts(support.TestCase):
-    """Texts are cut to what they may be wide, and show what they hold."""
-
     def test_short(self):
         rows = [
             ("abc", 3, "abc"), ("abcd", 3, "ab…"), ("abcd", 1, "…"), ("日本", 4, "日本"),
             ("日本語", 4, "日…"), ("a\n", 3, "a\\n"), ("\u202e", 6, "\\u202e"),
             ("\u202e", 5, "\\u20…"), ("\x7f", 6, "\\u007f"), ("é", 1, "é"),
         ]
-        for text, columns, wanted in rows:
-            with self.subTest(text=text, columns=columns):
-                self.assertEqual(naming.short(text, columns), wanted)
-        self.says(len(rows), "texts")
+        self.each(rows, "texts", lambda it: self.assertEqual(naming.short(*it[:2]), it[2]))
 
 
 class Docs(support.TestCase):
-    """Each picture in docs/ is the one of a run that is kept in tests/runs."""
-
     def test_pictures(self):
         pictures = sorted((ROOT / "docs").glob("*.svg"))
         for picture in pictures:
@@ -372,54 +345,15 @@ class Docs(support.TestCase):
         self.says(len(pictures), "pictures", 2)
 
 
-class Refusals(support.TestCase):
-    """What tools/draw doesn't draw."""
-
-    def test_logs(self):
-        bad = [
-            ("hublog 9\n", b"tools/draw: <stdin>: line 1: BadHeader\n"),
-            ("hublog 3\nput 0 0 0:0 - 1\n", b"tools/draw: <stdin>: line 2: BadLine\n"),
-            ("hublog 3\nagent 0\ngot 0 0 0:0 - 1.5\n", b"tools/draw: <stdin>: line 3: BadLine\n"),
-        ]
-        for text, answer in bad:
-            with self.subTest(text=text):
-                self.assertEqual(run(text), (b"", answer, 2))
-        self.says(len(bad), "logs")
-
-    def test_scripts(self):
-        good = '{"agent":"window","origin":"https://a.example"}\n'
-        bad = [
-            "[]", "# x", "{", '{"agent":"boss"}', '{"channel":["a"]}', '{"channel":"ab"}',
-            '{"channel":["a",1]}', '{"member":7}', "[" * 5_000,
-        ]
-        with tempfile.TemporaryDirectory(prefix="a folder ") as folder:
-            script = pathlib.Path(folder) / "a script"
-            for line in bad:
-                with self.subTest(line=line[:40]):
-                    script.write_text(f"{good}{line}\n", "utf-8")
-                    done = run(PORT_SENT, "--script", script)
-                    self.assertEqual((done.output, done.status), (b"", 2))
-                    self.assertTrue(done.errors.endswith(b"a script: line 2: Syntax\n"), done)
-        self.says(len(bad), "scripts")
-
-    def test_words(self):
-        others = [
-            ["--most"], ["--most", "-1"], ["--fly"], ["a", "b"], ["/nowhere/at/all"], ["--script"],
-            ["--script", "/nowhere/at/all"], ["--script", ROOT / "README.md"],
-        ]
-        for words in others:
-            with self.subTest(words=words):
-                done = run("", *words)
-                self.assertEqual((done.output, done.status), (b"", 2))
-                self.assertTrue(done.errors.startswith(b"usage: tools/draw "), done.errors)
-        self.says(len(others), "calls")
+class Files(support.TestCase):
+    def test_bad_script(self):
+        script = self.write("a script", SCRIPT.replace("worker", "boss"))
+        words = [DRAW, "--script", script]
+        self.assert_refused(words, "a script: line 2: Syntax\n", text=PORT_SENT.encode())
+        self.says(1, "script")
 
     def test_named_file(self):
-        with tempfile.NamedTemporaryFile(suffix=" logs") as file:
-            file.write(PORT_SENT.encode())
-            file.flush()
-            name = pathlib.Path(file.name).name.encode()
-            piped = run(PORT_SENT)
-            piped = piped._replace(output=piped.output.replace(b"&lt;stdin&gt;", name))
-            self.assert_outcome(run("", file.name), piped)
+        path, piped = self.write("some logs", PORT_SENT), run(PORT_SENT)
+        piped = piped._replace(output=piped.output.replace(b"&lt;stdin&gt;", b"some logs"))
+        self.assert_outcome(run("", path), piped)
         self.says(1, "file")

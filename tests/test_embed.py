@@ -12,10 +12,9 @@ import re
 import shutil
 import sys
 import tempfile
-import unittest
 
 import support
-from support import PROGRAM, ROOT, TESTS, outcome_of
+from support import PROGRAM, ROOT, TESTS, needs, outcome_of
 
 EMBED = ROOT / "embed"
 OUT = EMBED / "out"
@@ -30,13 +29,7 @@ BUGS = ["overtakes", "swaps_ports", "stays_enabled", "drops_waiting", "posts_to_
 MOST_ACTIONS = 15
 
 
-def needs(tool, why=None):
-    there = shutil.which(tool) is not None
-    return unittest.skipUnless(there, why or f"{tool}, which is not on the PATH")
-
-
 def sources():
-    """What the library and its wrappers are made of."""
     yield ROOT / "crates.txt"
     yield from (ROOT / "tools" / name for name in ("machine.py", "notices.py", "weburl.py"))
     for folder in (EMBED, ROOT / "crates"):
@@ -47,7 +40,6 @@ def sources():
 
 
 def build():
-    """Has embed/out built, once for all tests."""
     lock = pathlib.Path(tempfile.gettempdir()) / f"varukoni-embed-{os.getuid()}"
     with open(lock, "w", encoding="utf-8") as held:
         fcntl.flock(held, fcntl.LOCK_EX)
@@ -68,25 +60,27 @@ class Embedded(support.TestCase):
 
     def setUp(self):
         build()
-        self.folder = tempfile.TemporaryDirectory()
-        self.addCleanup(self.folder.cleanup)
 
     def compiled(self, source, *words, compiler="gcc", standard="-std=c11"):
-        program = pathlib.Path(self.folder.name) / pathlib.Path(source).stem
-        found = outcome_of([
+        program = self.folder / source.stem
+        self.ran([
             compiler, standard, "-g", "-O1", *WARNINGS, f"-I{OUT / 'include'}", "-o", program,
             source, *words,
         ])
-        self.assertEqual((found.errors.decode(), found.status), ("", 0))
         return program
 
+    def compiled_twice(self, source, *words):
+        """The programs of a source in C as such, and in C++ where g++ is there."""
+        yield self.compiled(source, *words)
+        if shutil.which("g++"):
+            cpp = shutil.copy(source, self.folder / f"{source.stem}.cc")
+            yield self.compiled(cpp, *words, compiler="g++", standard="-std=c++11")
+
     def calls(self):
-        """The program of embed/c/tests, under the sanitizers."""
         return self.compiled(CALLS, OUT / "lib" / "libvarukoni.a", *SANITIZERS, *WRAPPED)
 
 
 def step_texts():
-    """Step files: name and text."""
     for path in sorted((ROOT / "examples").glob("*.steps")):
         yield path.name, path.read_bytes()
     for row in support.rows("steps"):
@@ -105,22 +99,14 @@ def texts():
 
 
 class C(Embedded):
-    """Calls from C and C++."""
-
     def test_first_example(self):
         wanted = outcome_of([PROGRAM, "steps"], (ROOT / "examples" / "first.steps").read_bytes())
-        words = [OUT / "lib" / "libvarukoni.a"]
         first = EMBED / "c" / "first.c"
-        programs = [self.compiled(first, *words)]
-        if shutil.which("g++"):
-            cpp = pathlib.Path(self.folder.name) / "first.cc"
-            shutil.copy(first, cpp)
-            programs.append(self.compiled(cpp, *words, compiler="g++", standard="-std=c++11"))
         shared = [f"-L{OUT / 'lib'}", "-lvarukoni", f"-Wl,-rpath,{OUT / 'lib'}"]
-        programs.append(self.compiled(first, *shared))
-        for program in programs:
-            self.assert_outcome(outcome_of([program]), wanted)
-            self.says(len(wanted.output.splitlines()), "lines", 5)
+        for words in ([OUT / "lib" / "libvarukoni.a"], shared):
+            for program in self.compiled_twice(first, *words):
+                self.assert_outcome(outcome_of([program]), wanted)
+                self.says(len(wanted.output.splitlines()), "lines", 5)
 
     def test_step_files_line_by_line(self):
         program, count = self.calls(), 0
@@ -132,39 +118,30 @@ class C(Embedded):
         self.says(count, "files", 80)
 
     def test_whole_texts(self):
-        program, counts = self.calls(), dict.fromkeys(["steps", "check", "script"], 0)
+        program, counts, good = self.calls(), dict.fromkeys(["steps", "check", "script"], 0), 0
         for name, text in texts():
             for what in counts:
                 with self.subTest(name=name, call=what):
                     found = outcome_of([program, what], text)
-                    mode = "run" if what == "script" else what
-                    is_script = what == "script" and found.status == 0
-                    if is_script:
-                        self.assertEqual((found.output, found.errors), (b"", b""))
-                    else:
-                        self.assert_outcome(found, outcome_of([PROGRAM, mode], text))
+                    wanted = outcome_of([PROGRAM, "run" if what == "script" else what], text)
+                    if what == "script" and wanted.status != 2:
+                        # What the program runs is good, and only read.
+                        wanted = support.Outcome(b"", b"", 0)
+                        good += 1
+                    self.assert_outcome(found, wanted)
                     counts[what] += 1
         for what, count in counts.items():
             self.says(count, f"texts for {what}", 150)
-
-    def test_good_scripts_are_read(self):
-        """A script that the program runs is good, and one that it tells a bad line of is bad."""
-        program, found = self.calls(), {0: 0, 2: 0}
-        for row in support.rows("run"):
-            status = outcome_of([program, "script"], row.text).status
-            self.assertEqual(status == 2, row.status == 2, row.name)
-            found[status] += 1
-        self.says(found[0], "good scripts", 10)
-        self.says(found[2], "bad scripts", 5)
+        self.says(good, "good scripts", 10)
+        self.says(counts["script"] - good, "bad scripts", 5)
 
     def test_each_allocation_refused(self):
         program, total = self.calls(), [0, 0, 0, 0]
         names = ["every", "casts-of-two-origins", "doomed-then-taken", "long-body-taken",
                  "port-in-what-is-swept", "queues-and-an-order"]
         for name in names:
-            found = outcome_of([program, "refuse"], support.row("steps", name).text, seconds=300)
-            self.assertEqual((found.errors, found.status), (b"", 0), name)
-            counts = list(map(int, re.findall(rb"\d+", found.output)))
+            found = self.ran([program, "refuse"], support.row("steps", name).text, seconds=300)
+            counts = list(map(int, re.findall(rb"\d+", found)))
             total = [one + other for one, other in zip(total, counts)]
         things = ["allocations refused", "lines given again", "told later", "hubs lost"]
         for count, what, floor in zip(total, things, [100, 50, 10, 20]):
@@ -173,9 +150,7 @@ class C(Embedded):
     def test_four_threads(self):
         program, lines = self.calls(), 0
         for name in ("every", "casts-of-two-origins"):
-            found = outcome_of([program, "threads"], support.row("steps", name).text)
-            self.assertEqual((found.errors, found.status), (b"", 0), name)
-            lines += int(found.output.split()[0])
+            lines += int(self.ran([program, "threads"], support.row("steps", name).text).split()[0])
         self.says(lines, "lines", 10_000)
 
     def test_a_million_lines(self):
@@ -198,28 +173,26 @@ class C(Embedded):
 
 
 class Wrappers(Embedded):
-    """The tests of the wrappers themselves."""
-
-    def ran(self, words, seconds=300, **options):
-        found = outcome_of(words, seconds=seconds, **options)
+    def told(self, words, **options):
+        found = outcome_of(words, seconds=300, **options)
         self.assertEqual(found.status, 0, (found.output + found.errors)[-4_000:].decode())
         return found.output.decode()
 
     @needs("cargo")
     def test_rust(self):
-        crate = pathlib.Path(self.folder.name) / "rust"
+        crate = self.folder / "rust"
         shutil.copytree(OUT / "rust", crate)
         settings = {**os.environ, "VARUKONI_LIB": str(OUT / "lib")}
-        told = self.ran(["cargo", "test", "--offline", "--quiet"], cwd=crate, env=settings)
+        told = self.told(["cargo", "test", "--offline", "--quiet"], cwd=crate, env=settings)
         self.says(sum(map(int, re.findall(r"(\d+) passed", told))), "tests", 6)
 
     def test_python(self):
-        told = self.ran([sys.executable, "-B", EMBED / "python" / "tests.py"])
+        told = self.told([sys.executable, "-B", EMBED / "python" / "tests.py"])
         self.says(int(re.fullmatch(r"embed/python: (\d+) checks\n", told)[1]), "checks", 30)
 
     @needs("node")
     def test_node(self):
-        told = self.ran(["node", EMBED / "node" / "tests.mjs", "200", "300", "1"])
+        told = self.told(["node", EMBED / "node" / "tests.mjs", "200", "300", "1"])
         wanted = r"embed/node: (\d+) checks, (\d+) programs, (\d+) deliveries, (\d+) ports: 0 "
         counts = map(int, re.match(wanted, told).groups())
         for count, what, floor in zip(counts, ["checks", "programs", "deliveries", "ports"],
@@ -228,8 +201,6 @@ class Wrappers(Embedded):
 
 
 class Models(Embedded):
-    """A hub under test beside the core."""
-
     def outcome(self, *words):
         program = EMBED / "python" / "model_test.py"
         found = outcome_of([sys.executable, "-B", program, *words], seconds=200)
@@ -261,12 +232,10 @@ class Models(Embedded):
 
 
 class Folder(Embedded):
-    """A folder that is made for others."""
-
     time_limit = 2 * SECONDS_TO_BUILD
 
     def test_it_needs_no_toolchain(self):
-        folder = pathlib.Path(self.folder.name) / "made"
+        folder = self.folder / "made"
         found = outcome_of([EMBED / "build", "--to", folder], seconds=SECONDS_TO_BUILD)
         self.assertEqual(found.status, 0, found.errors.decode())
         told = (folder / "BUILT").read_text(encoding="utf-8")
@@ -275,23 +244,18 @@ class Folder(Embedded):
         self.assertRegex(told, head)
         sums = re.findall(r"^([0-9a-f]{64})  (.*)$", told, re.MULTILINE)
         listed = "".join(f"{total}  {name}\n" for total, name in sums)
-        check = outcome_of(["sha256sum", "--check", "--quiet"], listed.encode(), cwd=folder)
-        self.assertEqual(check.status, 0, check)
+        self.ran(["sha256sum", "--check", "--quiet"], listed.encode(), cwd=folder)
         self.assertIn("serde_json", (folder / "NOTICE").read_text(encoding="utf-8"))
         self.says(len(sums), "files", 14)
-        bare = {"PATH": os.defpath, "HOME": self.folder.name}
+        bare = {"PATH": os.defpath, "HOME": str(self.folder)}
         first = "import varukoni\nprint(varukoni.Hub()('agent -'))"
         words = [sys.executable, "-B", "-c", first]
-        found = outcome_of(words, cwd=folder / "python", env=bare)
-        self.assertEqual((found.output, found.status), (b"agent 0\n", 0), found)
+        self.assertEqual(self.ran(words, cwd=folder / "python", env=bare), b"agent 0\n")
 
     def test_refusals(self):
         """It leaves alone a folder that it hasn't made, and says what is wrong."""
-        other = pathlib.Path(self.folder.name) / "other"
-        other.mkdir()
-        (other / "mine").write_text("mine", encoding="utf-8")
-        found = outcome_of([EMBED / "build", "--to", other])
-        self.assertEqual((found.output, found.status), (b"", 2), found)
+        other = self.write("other/mine", "mine").parent
+        self.assert_refused([EMBED / "build", "--to", other])
         self.assertEqual([path.name for path in other.iterdir()], ["mine"])
         words = [sys.executable, "-B", EMBED / "build", "--to", other / "new"]
         found = outcome_of(words, env={"PATH": "/nowhere"})

@@ -40,7 +40,6 @@ def tables(text):
 
 
 def column(name, head, place):
-    """The cells of a column, of the table in that section with that head."""
     found = [lines for cells, lines in tables(section(name)) if cells == head]
     return [line[place] for lines in found for line in lines]
 
@@ -63,7 +62,6 @@ def pattern_of(outcome):
 
 
 def outcomes():
-    """By outcome of a step line, its pattern."""
     head = ["Step line", "What it does", "Outcomes besides `not-now`"]
     forms = {"not-now"}
     for cell in column("Step lines", head, 2):
@@ -113,8 +111,6 @@ def shown_by_tests():
 
 
 class Words(support.TestCase):
-    """Nothing of docs/FORMATS.md is shown nowhere."""
-
     def find(self, wanted, is_shown, things, floor):
         missing = sorted(word for word in wanted if not is_shown(word))
         self.assertEqual(missing, [], f"{things} that nothing shows")

@@ -18,8 +18,6 @@ def refusal_of(script, is_strict=True):
 
 
 class Scripts(support.TestCase):
-    """Scripts, and the first mistake of bad ones, which the program tells too."""
-
     def test_rows(self):
         rows = support.rows("run")
         for row in rows:
@@ -78,8 +76,6 @@ class Scripts(support.TestCase):
 
 
 class Origins(support.TestCase):
-    """tools/weburl.py, by the URL Standard and its examples."""
-
     def test_origins(self):
         rows = [
             ("https://a.test:443/x y", "https://a.test"),
@@ -122,7 +118,8 @@ class Origins(support.TestCase):
                 origin, first = weburl.origin_of(url), "agent 0"
             except weburl.NoOrigin as why:
                 origin, first = "-", outcomes[type(why)]
-            lines = [f"agent {url}", f"agent {origin}", 'member 0 "n"', 'member 1 "n"', "cast 0 - 1"]
+            members = ['member 0 "n"', 'member 1 "n"', "cast 0 - 1"]
+            lines = [f"agent {url}", f"agent {origin}", *members]
             found = outcome_of([PROGRAM, "steps"], "\n".join(lines).encode())
             first_line, *_, last = found.output.decode().splitlines()
             self.assertEqual(first_line, first, url)

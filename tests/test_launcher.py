@@ -1,12 +1,8 @@
 """Runs the launcher `./messagehub` and tools/build with a toolchain that only plays one."""
 
 import os
-import pathlib
 import shutil
 import signal
-import subprocess
-import tempfile
-import time
 
 import support
 from support import ROOT, outcome_of
@@ -84,20 +80,12 @@ LATE = "checked: no-answer: the program did not end within the time limit\n"
 
 
 class Launcher(support.TestCase):
-    """The launcher in a repository of four crates, below a path with spaces."""
-
     shows = frozenset({"status 70"})
 
     def setUp(self):
-        folder = tempfile.TemporaryDirectory(prefix="a launcher ")
-        self.addCleanup(folder.cleanup)
-        self.folder = pathlib.Path(folder.name).resolve()
-        self.root = self.make("a repository")
-        self.kit = self.folder / "kit"
-        (self.kit / "bin").mkdir(parents=True)
-        (self.kit / "KIT-ID").write_text("a kit\n", encoding="utf-8")
-        (self.kit / "bin" / "rt").write_text(FAKE_RT, encoding="utf-8")
-        (self.kit / "bin" / "rt").chmod(0o755)
+        self.root, self.kit = self.make("a repository"), self.folder / "kit"
+        self.write("kit/KIT-ID", "a kit\n")
+        self.write("kit/bin/rt", FAKE_RT, 0o755)
         self.asked, self.rt_says = self.folder / "asked", self.folder / "said"
         self.settings = {
             "PATH": f"{self.kit}/bin{os.pathsep}{os.defpath}",
@@ -110,11 +98,10 @@ class Launcher(support.TestCase):
     def make(self, name):
         root = self.folder / name
         for crate in ("low", "high", "wide", "messagehub", "other"):
-            (root / "crates" / crate / "src").mkdir(parents=True)
-            (root / "crates" / crate / "src" / "lib.rt").write_text("// code\n", encoding="utf-8")
+            self.write(f"{name}/crates/{crate}/src/lib.rt", "// code\n")
+        self.write(f"{name}/crates.txt", CRATES)
+        self.write(f"{name}/HANDLES", "Handles allowed: none.\n")
         (root / "tools").mkdir()
-        (root / "crates.txt").write_text(CRATES, encoding="utf-8")
-        (root / "HANDLES").write_text("Handles allowed: none.\n", encoding="utf-8")
         shutil.copy(ROOT / "messagehub", root)
         for tool in ("build", "buildplan.py", "command.py", "cratelist.py", "rtinside.py"):
             shutil.copy(ROOT / "tools" / tool, root / "tools")
@@ -124,8 +111,11 @@ class Launcher(support.TestCase):
         words = [(root or self.root) / "messagehub", *words]
         return outcome_of(words, env=self.settings, cwd=self.folder)
 
+    def assert_fails(self, words, *said):
+        words = [self.root / "messagehub", *words]
+        self.assert_refused(words, *said, status=70, env=self.settings, cwd=self.folder)
+
     def calls(self):
-        """What rt was asked for since the last call of this."""
         lines = self.asked.read_text(encoding="utf-8").splitlines() if self.asked.exists() else []
         self.asked.unlink(missing_ok=True)
         return [line for line in lines if not line.endswith(" version")]
@@ -173,8 +163,7 @@ class Launcher(support.TestCase):
 
     def test_file(self):
         """A file in the place of standard input; one that can't be read is told alone."""
-        path = self.folder / "a file.steps"
-        path.write_text("some text\n", encoding="utf-8")
+        path = self.write("a file.steps", "some text\n")
         self.launch("steps")
         program = self.root / "crates" / "messagehub" / "out" / "messagehub"
         program.write_text('#!/bin/sh\necho "ran $@"\ncat\n', encoding="utf-8")
@@ -190,9 +179,7 @@ class Launcher(support.TestCase):
     def test_no_toolchain(self):
         self.settings["PATH"] = os.defpath
         for words in (["steps"], ["--unproved", "steps"]):
-            found = self.launch(*words)
-            self.assertEqual((found.output, found.status), (b"", 70))
-            self.assertIn(b"no `rt` on the path", found.errors)
+            self.assert_fails(words, "no `rt` on the path")
         self.says(2, "calls")
 
     def test_build(self):
@@ -237,13 +224,13 @@ class Launcher(support.TestCase):
         source = self.root / "crates" / "low" / "src" / "lib.rt"
         source.touch()
         self.assert_runs(is_built=False)
-        found = outcome_of([other / "tools" / "build", "--sum"], env=self.settings)
-        self.assertEqual((len(found.output), found.status), (65, 0))
+        total = self.ran([other / "tools" / "build", "--sum"], env=self.settings)
+        self.assertEqual(len(total), 65)
         self.says(3, "runs")
 
     def test_libraries_of_ci(self):
         """What `rt ci` leaves has no sum. Libraries of one run get theirs, of two runs none."""
-        (self.kit / "bin" / "rtlib.py").write_text(FAKE_RTLIB, encoding="utf-8")
+        self.write("kit/bin/rtlib.py", FAKE_RTLIB)
         self.assert_runs(is_built=True)
         crates = self.root / "crates"
         stamps = [crates / it / "out" / "rlib" / "stamp" for it in ("low", "high", "wide")]
@@ -264,15 +251,14 @@ class Launcher(support.TestCase):
     def test_first_build(self):
         """Where nothing was built yet the libraries hold statements; from then on `rt lib` makes
         them, which goes on from what it keeps."""
-        rtlib = self.kit / "bin" / "rtlib.py"
-        rtlib.write_text(FAKE_RTLIB_OF_STATEMENTS, encoding="utf-8")
+        self.write("kit/bin/rtlib.py", FAKE_RTLIB_OF_STATEMENTS)
         self.launch("steps")
         calls = self.calls()
         by_statements = sorted(line.split()[0] for line in calls if line.endswith(" statements"))
         self.assertEqual(by_statements, ["high", "low", "wide"])
         proved = [line for line in calls if line.startswith("proved ")]
         self.assertEqual(proved, ["proved messagehub"])
-        (self.root / "crates" / "low" / "src" / "lib.rt").write_text("// new\n", encoding="utf-8")
+        self.write("a repository/crates/low/src/lib.rt", "// new\n")
         self.launch("steps")
         calls = self.calls()
         self.assertIn("low lib --jobs", " ".join(calls))
@@ -280,17 +266,12 @@ class Launcher(support.TestCase):
         self.says(2, "builds")
 
     def build(self, *words):
-        found = outcome_of([self.root / "tools" / "build", *words], env=self.settings)
-        self.assertEqual((found.errors, found.status), (b"", 0))
-        return found.output
+        return self.ran([self.root / "tools" / "build", *words], env=self.settings)
 
     def test_build_that_fails(self):
         fails = self.root / "crates" / "high" / "fails"
         fails.touch()
-        found = self.launch("steps")
-        self.assertEqual((found.output, found.status), (b"", 70))
-        self.assertIn(b"rt: a proof failed", found.errors)
-        self.assertIn(b"high isn't proved", found.errors)
+        self.assert_fails(["steps"], "rt: a proof failed", "high isn't proved")
         self.assertTrue(self.calls())
         fails.unlink()
         self.assert_runs(is_built=True)
@@ -323,15 +304,10 @@ class Launcher(support.TestCase):
             'at=$(dirname "$RT_SAYS")\n[ "${PWD##*/}" != high ] || [ -e "$at/go" ] ||'
             ' { touch "$at/waits"; sleep 30; exit 1; }\n'
         )
-        rt = self.kit / "bin" / "rt"
-        rt.write_text(FAKE_RT.replace("case $1 in", f"{waits}case $1 in"), encoding="utf-8")
-        how = {"stdout": subprocess.PIPE, "stderr": subprocess.PIPE, "start_new_session": True}
-        # A command behind a shell's back ignores Ctrl-C, and so would what it starts.
-        how["preexec_fn"] = lambda: signal.signal(signal.SIGINT, signal.SIG_DFL)
-        words = [self.root / "messagehub", "steps"]
-        with subprocess.Popen(words, env=self.settings, **how) as build:
-            while not (self.folder / "waits").exists() and build.poll() is None:
-                time.sleep(0.02)
+        self.write("kit/bin/rt", FAKE_RT.replace("case $1 in", f"{waits}case $1 in"), 0o755)
+        words, is_ready = [self.root / "messagehub", "steps"], (self.folder / "waits").exists
+        how = {"env": self.settings, "start_new_session": True}
+        with support.begun(words, is_ready, **how) as build:
             os.killpg(build.pid, signal.SIGINT)
             output, errors = build.communicate(timeout=60)
         self.assertEqual((output, build.returncode), (b"", 130), errors)

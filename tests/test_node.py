@@ -1,19 +1,15 @@
 """Compares the program with Node's own MessageChannel and BroadcastChannel, where Node is there."""
 
 import os
-import pathlib
 import re
-import shutil
 import sys
-import tempfile
-import unittest
 
 import support
 from support import PROGRAM, TESTS, outcome_of
 
 FILES = 125
 SEEDS = (1, 2, 3, 4)
-needs_node = unittest.skipIf(shutil.which("node") is None, "node, which is not on the PATH")
+needs_node = support.needs("node")
 TOLD = re.compile(rb"tests/node: (\d+) files, (\d+) lines, (\d+) takes, (\d+) bodies, (\d+) casts")
 
 
@@ -25,10 +21,8 @@ class Node(support.TestCase):
 
     def compare(self, seed):
         words = [TESTS / "node", f"--files={FILES}", f"--seed={seed}", PROGRAM]
-        found = outcome_of(words, seconds=self.time_limit)
-        self.assertEqual((found.errors, found.status), (b"", 0), found.output[-4_000:].decode())
-        told = TOLD.match(found.output)
-        self.assertTrue(told, found.output)
+        told = TOLD.match(self.ran(words, seconds=self.time_limit))
+        self.assertTrue(told)
         files, lines, takes, bodies, casts = map(int, told.groups())
         self.assertEqual(files, FILES)
         self.says(lines, "lines", 300 * FILES)
@@ -37,25 +31,15 @@ class Node(support.TestCase):
         self.says(casts, "casts", 5 * FILES)
 
 
-def method_of(seed):
-    return lambda self: self.compare(seed)
-
-
-for _seed in SEEDS:
-    setattr(Node, f"test_seed_{_seed}", method_of(_seed))
+support.add_tests(Node, Node.compare, {f"seed_{seed}": seed for seed in SEEDS})
 
 
 class Refusals(support.TestCase):
-    """A comparison that would compare nothing is refused."""
-
     @needs_node
     def test_counts(self):
         others = [[], ["0", "300", "1"], ["abc", "300", "1"], ["500", "0", "1"], ["1", "1"]]
-        for words in others:
-            with self.subTest(words=words):
-                found = outcome_of(["node", TESTS / "node.mjs", PROGRAM, *words])
-                self.assertEqual((found.output, found.status), (b"", 2))
-        self.says(len(others), "calls")
+        call = ["node", TESTS / "node.mjs", PROGRAM]
+        self.each(others, "calls", lambda words: self.assert_refused([*call, *words]))
 
     @needs_node
     def test_no_takes(self):
@@ -67,14 +51,11 @@ class Refusals(support.TestCase):
 
     def test_no_node(self):
         """Without Node it fails, unless it is told that there is none."""
-        words = [sys.executable, TESTS / "node", PROGRAM]
+        words = [sys.executable, "-B", TESTS / "node", PROGRAM]
         settings = {**os.environ, "PATH": "/nowhere"}
-        found = outcome_of(words, env=settings)
-        self.assertEqual((found.output, found.status), (b"", 2))
-        self.assertIn(b"there is no node on the PATH", found.errors)
-        found = outcome_of([*words, "--without-node"], env=settings)
-        self.assertEqual((found.errors, found.status), (b"", 0))
-        self.assertTrue(found.output.startswith(b"left out: node"), found.output)
+        self.assert_refused(words, "there is no node on the PATH", env=settings)
+        said = self.ran([*words, "--without-node"], env=settings)
+        self.assertTrue(said.startswith(b"left out: node"), said)
         self.says(2, "calls")
 
     @needs_node
@@ -85,14 +66,11 @@ class Refusals(support.TestCase):
             "s/^notice 0:/notice 1:/", "s/^adopted 1/adopted 2/", "s/^done/closed/",
             "$a more", "$d",
         ]
-        with tempfile.TemporaryDirectory() as folder:
-            for change in changes:
-                with self.subTest(change=change):
-                    wrong = pathlib.Path(folder) / "wrong"
-                    pipe = f"\"{PROGRAM}\" \"$@\" | sed '{change}'"
-                    wrong.write_text(f"#!/bin/sh\n{pipe}\n", "utf-8")
-                    wrong.chmod(0o755)
-                    found = outcome_of([TESTS / "node", "--files=20", wrong])
-                    self.assertEqual(found.status, 1, found.output[-300:])
-                    self.assertIn(b"the program says", found.output)
+        for change in changes:
+            with self.subTest(change=change):
+                pipe = f"\"{PROGRAM}\" \"$@\" | sed '{change}'"
+                wrong = self.write("wrong", f"#!/bin/sh\n{pipe}\n", 0o755)
+                found = outcome_of([TESTS / "node", "--files=20", wrong])
+                self.assertEqual(found.status, 1, found.output[-300:])
+                self.assertIn(b"the program says", found.output)
         self.says(len(changes), "wrong programs")

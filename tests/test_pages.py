@@ -2,13 +2,24 @@
 
 Commands with an output are run and compared, step lines that stand beside their outcomes are run,
 examples of code are looked for in the file that they are from, links are followed, and what can be
-counted is counted. docs/GUIDE.md and docs/YOUR_HUB.md have tests of their own.
+counted is counted. docs/YOUR_HUB.md has a test of its own.
+
+A session is a block that begins with ```console. Each line `$ COMMAND` in it is a command, and what
+follows up to the next one is the whole output. No exit status is shown: that of the program is told
+by the last line of the output, as docs/FORMATS.md says.
 """
 
+import collections
+import pathlib
 import re
+import shutil
+import subprocess
+import sys
+import tempfile
+import time
 
 import support
-from support import MODES, PROGRAM, ROOT, outcome_of, settled
+from support import MODES, PROGRAM, ROOT, Outcome, outcome_of
 
 import cratelist
 
@@ -17,19 +28,20 @@ DOCS = sorted((ROOT / "docs").glob("*.md"))
 CRATE_PAGES = sorted((ROOT / "crates").glob("*/README.md"))
 PAGES = [README, *DOCS, *CRATE_PAGES]
 OTHERS = [ROOT / "CONTRIBUTING.md", ROOT / "CHANGELOG.md"]
-# Pages whose sessions another test runs.
-TESTED = {"GUIDE.md", "YOUR_HUB.md"}
+# A page whose sessions another test runs.
+TESTED = "YOUR_HUB.md"
 
 SESSION = re.compile(r"^```console\n((?:.*\n)*?)```$", re.MULTILINE)
 BESIDE = re.compile(r"^```steps\n((?:.*\n)*?)```$", re.MULTILINE)
 EXCERPT = re.compile(r"^From `([^`]+)`[^\n]*:\n\n```rust\n((?:.*\n)*?)```$", re.MULTILINE)
 LINK = re.compile(r"\[[^]]*\]\(([^)#\s]*)(#[^)\s]*)?\)")
 NAMED = re.compile(r"`([a-z_0-9]+\.rt)`")
-RUN = re.compile(rf"\./messagehub ({'|'.join(MODES)}) < (\S+)")
+SHOWN = re.compile(rf"(?:(cat|tools/\w+)|\./messagehub ({'|'.join(MODES)}) <) (\S+)")
+BAD_INPUT = re.compile(rb"line [0-9]+: [A-Za-z0-9()]+")
 # Commands that are shown and not run: they prove, build without proofs, or build a library.
 LEFT = re.compile(r"\.ci/run|\./messagehub --unproved .*|embed/build .*|python3 embed/python/.*")
 
-MOST_WORDS = {"README.md": 1_500, "a crate": 250, "all": 31_000}
+MOST_WORDS = {"README.md": 1_400, "a crate": 250, "all": 31_000}
 
 
 def text_of(path):
@@ -41,20 +53,24 @@ def words_of(path):
 
 
 def crates():
-    """The names of the crates, and those of them that are crates of tests."""
     names = set(cratelist.lines())
     return names, {name for name in names if name.endswith("_tests")}
 
 
-def commands():
-    """Each command of a page with its output, or None where the page shows none."""
-    for page in PAGES:
-        if page.name in TESTED:
-            continue
-        for block in SESSION.findall(text_of(page)):
-            for part in re.split(r"^\$ ", block, flags=re.MULTILINE)[1:]:
-                command, _, output = part.partition("\n")
-                yield page, command, output.encode()
+def commands_of(page):
+    """Each command of a page with its output, which is empty where the page shows none."""
+    for block in SESSION.findall(text_of(page)):
+        for part in re.split(r"^\$ ", block, flags=re.MULTILINE)[1:]:
+            command, _, output = part.partition("\n")
+            yield command, output.encode()
+
+
+def status_of(mode, output):
+    """The status that goes with an output of the program."""
+    last = output.splitlines()[-1]
+    if BAD_INPUT.fullmatch(last):
+        return 2
+    return 0 if mode == "steps" or last == b"clean" else 1
 
 
 def anchors(path):
@@ -68,26 +84,41 @@ def dedented(text):
 
 
 class Sessions(support.TestCase):
-    """What a page shows of a command is what a reader gets."""
+    def check(self, tool, mode, path, output):
+        """Compares what a command gives with what the page shows of it."""
+        if tool == "cat":
+            self.assertEqual(path.read_bytes(), output)
+            return
+        if mode:
+            found = outcome_of([PROGRAM, mode], path.read_bytes())
+            output = output or found.output
+            wanted = Outcome(output, b"", status_of(mode, output))
+        else:
+            # Else it has the launcher build the program.
+            words = [f"--program={PROGRAM}"] if tool == "tools/play" else []
+            found = outcome_of([ROOT / tool, *words, path], None)
+            wanted = Outcome(output or found.output, b"", found.status)
+        if mode == "run":
+            found, wanted = found.settled(), wanted.settled()
+        self.assert_outcome(found, wanted)
 
     def test_commands(self):
-        ran = 0
-        for page, command, output in commands():
+        ran = collections.Counter()
+        pages = [page for page in PAGES if page.name != TESTED]
+        shown = [(page, *it) for page in pages for it in commands_of(page)]
+        for page, command, output in shown:
             with self.subTest(page=page.name, command=command):
-                if LEFT.fullmatch(command):
-                    continue
-                ran += 1
-                found = RUN.fullmatch(command)
-                if found:
-                    outcome = outcome_of([PROGRAM, found[1]], (ROOT / found[2]).read_bytes())
-                else:
-                    self.assertRegex(command, r"^tools/\w+ examples/\S+$")
-                    name, path = command.split()
-                    outcome = outcome_of([ROOT / name, ROOT / path], None)
-                if output:
-                    self.assertEqual(settled(outcome.output), settled(output))
-                self.assertEqual(outcome.errors, b"")
-        self.says(ran, "commands", 6)
+                if not LEFT.fullmatch(command):
+                    found = SHOWN.fullmatch(command)
+                    self.assertTrue(found, "no such command is run")
+                    tool, mode, path = found.groups()
+                    self.check(tool, mode, ROOT / path, output)
+                    ran[tool or mode] += 1
+        runs = [ran[mode] for mode in MODES]
+        self.assertGreater(min(runs), 0)
+        self.says(ran["cat"], "files", 7)
+        self.says(sum(runs), "runs", 7)
+        self.says(ran.total() - ran["cat"] - sum(runs), "commands of tools", 3)
 
     def test_steps_beside_outcomes(self):
         pairs = [
@@ -124,9 +155,31 @@ class Sessions(support.TestCase):
         self.says(len(shown), "excerpts", 8)
 
 
-class Links(support.TestCase):
-    """Whoever follows a link or looks for a name finds it."""
+class FirstCommands(support.TestCase):
+    """What README's table of ways says of those that want Python alone."""
 
+    def test_python_alone(self):
+        """Their first commands run where there is nothing else, in about the time that it says."""
+        rows = re.findall(r"^\|[^|]+\| `([^`]+)`[^|]*\| Python 3\.11; a second \|",
+                          text_of(README), re.MULTILINE)
+        with tempfile.TemporaryDirectory() as name:
+            folder = pathlib.Path(name)
+            for part in ("examples", "record", "tools"):
+                shutil.copytree(ROOT / part, folder / part)
+            (folder / "bin").mkdir()
+            (folder / "bin" / "python3").symlink_to(sys.executable)
+            took = []
+            for row in rows:
+                began = time.monotonic()
+                found = subprocess.run(["/bin/sh", "-c", row], cwd=folder, capture_output=True,
+                                       env={"PATH": str(folder / "bin")}, check=False)
+                took.append(f"{time.monotonic() - began:.1f}")
+                with self.subTest(command=row):
+                    self.assertEqual((found.stderr, found.returncode), (b"", 0))
+        self.says(len(rows), f"ways, in {' and '.join(took)} s", 2)
+
+
+class Links(support.TestCase):
     def test_links(self):
         count = 0
         for page in [*PAGES, *OTHERS]:
@@ -142,14 +195,12 @@ class Links(support.TestCase):
         self.says(count, "links", 20)
 
     def test_crates(self):
-        names, tests = crates()
+        names, _ = crates()
         architecture = text_of(ROOT / "docs" / "ARCHITECTURE.md")
         for name in names:
             with self.subTest(crate=name):
                 self.assertIn(f"`{name}`", architecture)
                 self.assertTrue((ROOT / "crates" / name / "README.md").exists())
-                if name not in tests:
-                    self.assertIn(f"`{name}`", text_of(README))
         self.says(len(names), "crates", 30)
 
     def test_files_of_crates(self):
@@ -178,7 +229,6 @@ class Links(support.TestCase):
         self.says(rows, "lists", 5)
 
     def test_definitions(self):
-        """docs/DEFINITIONS.md names each file of definitions."""
         page = text_of(ROOT / "docs" / "DEFINITIONS.md")
         files = [path for path in sorted((ROOT / "crates").glob("*/specs/*.antt"))
                  if path.stem != "Lib"]
@@ -189,8 +239,6 @@ class Links(support.TestCase):
 
 
 class Counts(support.TestCase):
-    """What the pages count is so."""
-
     def test_words(self):
         for page in CRATE_PAGES:
             with self.subTest(page=page):

@@ -1,12 +1,8 @@
 """Plays scripts with tools/play: what is wrong with them, where they wait for ever, what came."""
 
-import os
 import pathlib
 import re
 import signal
-import subprocess
-import tempfile
-import time
 
 import support
 from support import PROGRAM, ROOT, outcome_of
@@ -121,17 +117,8 @@ SOMETIMES = [
 
 
 class Play(support.TestCase):
-    """Calls of tools/play on scripts in a folder."""
-
-    def setUp(self):
-        folder = tempfile.TemporaryDirectory(prefix="a play ")
-        self.addCleanup(folder.cleanup)
-        self.folder = pathlib.Path(folder.name)
-
-    def file(self, name, lines):
-        path = self.folder / name
-        path.write_text("".join(f"{line}\n" for line in lines), encoding="utf-8")
-        return path
+    def file(self, name, lines, mode=0o644):
+        return self.write(name, "".join(f"{line}\n" for line in lines), mode)
 
     def play(self, script, *words, program=PROGRAM):
         path = script if isinstance(script, pathlib.Path) else self.file("script", script)
@@ -141,19 +128,13 @@ class Play(support.TestCase):
     def program(self, *lines):
         """A program that checks logs, and runs scripts as the lines say."""
         check = f'[ "$1" = run ] || exec "{PROGRAM}" check'
-        path = self.file("program", ["#!/bin/sh", check, *lines])
-        path.chmod(0o755)
-        return path
+        return self.file("program", ["#!/bin/sh", check, *lines], 0o755)
 
 
 class Mistakes(Play):
-    """What is told of scripts that nobody could run."""
-
     def test_mistakes(self):
-        for lines, wanted in MISTAKES:
-            with self.subTest(lines=lines[-1]):
-                self.assertEqual(self.play(lines), ("", wanted, 2))
-        self.says(len(MISTAKES), "scripts", 20)
+        self.each(MISTAKES, "scripts",
+                  lambda it: self.assertEqual(self.play(it[0]), ("", it[1], 2)), 20)
 
     def test_strict(self):
         lines = [*FRONT, "", "// more", '{"at":"a","wait":0}']
@@ -167,16 +148,11 @@ class Mistakes(Play):
 
 
 class Rests(Play):
-    """Scripts that wait for ever, and runs that are ended."""
-
     def test_rests(self):
-        for lines, wanted in RESTS:
-            with self.subTest(lines=lines):
-                self.assertEqual(self.play([*FRONT, *lines]), ("", [*wanted, NOT_RUN], 1))
-        self.says(len(RESTS), "scripts", 5)
+        rests = [([*FRONT, *lines], ("", [*told, NOT_RUN], 1)) for lines, told in RESTS]
+        self.each(rests, "scripts", lambda it: self.assertEqual(self.play(it[0]), it[1]), 5)
 
     def test_sometimes(self):
-        """A warning, and then a run, which may end or be ended."""
         _, errors, _ = self.play(SOMETIMES, "--timeout=1")
         self.assertEqual(errors[0], "warning: it may wait for ever")
         found = re.search(r"in (\d+) of 32 schedules tried", errors[1])
@@ -193,29 +169,21 @@ class Rests(Play):
              ["none of 32 schedules tried waits for ever; lines that wait are", "agent 0: 4"]),
         ]
         for script, wanted in cases:
-            output, errors, status = self.play(
-                script, "--anyway", "--timeout=0.2", program=sleeper
-            )
+            output, errors, status = self.play(script, "--anyway", "--timeout=0.2", program=sleeper)
             at = errors.index("it didn't end within 0.2 s, and was ended; still to do:")
             self.assertEqual(errors[at + 1 :], [f"    {it}" for it in wanted])
             self.assertEqual((output, status), ("", 1))
-            self.assertFalse(os.path.exists(f"/proc/{pid.read_text('utf-8').strip()}"))
+            self.assertFalse(support.is_running(pid.read_text("utf-8").strip()))
         self.says(len(cases), "runs")
 
     def test_interrupted(self):
-        """Ctrl-C ends the program too."""
         pid = self.folder / "pid"
         program = self.program(f'echo $$ > "{self.folder}/new"', f'mv "{self.folder}/new" "{pid}"',
                                "exec sleep 60")
-        with subprocess.Popen(
-            [PLAY, f"--program={program}", TWO], stderr=subprocess.PIPE,
-            preexec_fn=lambda: signal.signal(signal.SIGINT, signal.SIG_DFL),
-        ) as play:
-            while not pid.exists() and play.poll() is None:
-                time.sleep(0.02)
+        with support.begun([PLAY, f"--program={program}", TWO], pid.exists) as play:
             play.send_signal(signal.SIGINT)
             self.assertEqual((play.communicate()[1], play.returncode), (b"", -signal.SIGINT))
-        self.assertFalse(os.path.exists(f"/proc/{pid.read_text('utf-8').strip()}"))
+        self.assertFalse(support.is_running(pid.read_text("utf-8").strip()))
         self.says(1, "run")
 
     def test_hangs(self):
@@ -228,17 +196,13 @@ class Rests(Play):
 
 
 class Runs(Play):
-    """What a run shows."""
-
     def test_deliveries(self):
         output, errors, status = self.play(TWO)
         self.assertEqual((output, errors, status), (CAME, [], 0))
         self.says(output.count("\n"), "lines")
 
     def test_names(self):
-        path = self.folder / "named"
-        path.write_text(NAMED, encoding="utf-8")
-        output, errors, status = self.play(path)
+        output, errors, status = self.play(self.write("named", NAMED))
         # (Which port is closed first, with a notice to the other, is decided by the threads.)
         head, *lines = output.splitlines()
         self.assertRegex(head, "^// right: 3 messages accepted and 3 got, by 2 agents at [23] end")

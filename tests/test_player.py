@@ -19,10 +19,7 @@ import machine
 NOT_PLAYED = 5
 NOTE = re.compile(rb"line (\d+): (.+)\n")
 # Why a row is not played to its end: all reasons that there are.
-REASONS = {
-    "no call refuses memory",
-    "no call makes a part of a post or of a sweep",
-}
+REASONS = {"no call refuses memory", "no call makes a part of a post or of a sweep"}
 SEED = 2_027
 FILES = 500
 EVENTS = ("install", "activate", "extend", "settle", "fail", "returned", "discard", "terminate")
@@ -39,8 +36,6 @@ def played_with_loops(text):
 
 
 class Rows(support.TestCase):
-    """The rows of `steps`."""
-
     def test_rows(self):
         whole, lines, reasons = collections.Counter(), 0, collections.Counter()
         for row in support.rows("steps"):
@@ -64,8 +59,6 @@ class Rows(support.TestCase):
 
 
 class Drawn(support.TestCase):
-    """Step files that are drawn from a seed."""
-
     time_limit = 300
 
     def test_files(self):
@@ -113,7 +106,6 @@ class Steps:
         return self.lines
 
     def do(self, line):
-        """A line that the machine does, too."""
         self.lines.append(line)
         return self.hub.do(line)
 
@@ -121,7 +113,6 @@ class Steps:
         return self.draw.randrange(below) == 0
 
     def pick(self, found):
-        """One of them, or None where there is none."""
         found = list(found)
         return self.draw.choice(found) if found else None
 
@@ -135,7 +126,6 @@ class Steps:
         return json.dumps(self.body(), separators=(",", ":"), ensure_ascii=False, sort_keys=True)
 
     def runner(self):
-        """An agent that runs."""
         return self.pick(it for it in range(len(self.hub.origins)) if it not in self.ending)
 
     def ends(self, *kinds):
@@ -380,7 +370,6 @@ class Turns(Steps):
         self.steps.append(line)
 
     def open_ends(self):
-        """The ends from which an agent that runs can take."""
         return [end for end in self.ends("port", "client", "worker", "member") if end.is_enabled]
 
     def turns(self):
@@ -410,7 +399,6 @@ class Turns(Steps):
         return port.place == machine.WITH
 
     def end(self):
-        """An agent is asked to end, which it finds in a turn."""
         if (agent := self.runner()) is not None and self.is_rare(4):
             self.lines.append(f"order {agent}")
             self.ordered.add(agent)
@@ -509,7 +497,6 @@ class TurnRows(support.TestCase):
         self.says(lines, "lines", 263_000)
 
     def play(self, steps):
-        """Plays lines, each with all that it is to print."""
         text = "".join(f"{line}\n" for line, _ in steps).encode()
         wanted = "".join(f"{line}\n" for _, lines in steps for line in lines).encode()
         self.assert_outcome(played_with_loops(text), support.Outcome(wanted, b"", 0))
@@ -541,7 +528,6 @@ class TurnRows(support.TestCase):
 
 
 def step(line, outcome):
-    """A step line, and what is printed for it."""
     return line, [f"> {line}", outcome]
 
 
@@ -563,7 +549,6 @@ class Course:
         self.posted[at] += 1
 
     def turn(self):
-        """Whether something was delivered."""
         order = [*range(self.next, self.count), *range(self.next)]
         at = next((it for it in order if self.taken[it] < self.posted[it]), None)
         if at is None:

@@ -32,8 +32,6 @@ NOT_COMPACT = ("bodies-read", "body-greatest-and-sorted")
 
 
 class PortSteps(test_player.Steps):
-    """Draws step lines of ports alone."""
-
     LEAST_LINES, MOST_LINES = 80, 200
 
     def make(self):

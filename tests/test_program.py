@@ -1,28 +1,22 @@
 """Runs the built program on the examples, with bad arguments, and with streams that fail."""
 
 import os
-import tempfile
 
 import support
-from support import MODES, PROGRAM, ROOT, TESTS, Outcome, outcome_of
+from support import MODES, PROGRAM, ROOT, TESTS, Outcome, outcome_of, settled
 
 USAGE = b"usage: messagehub steps|run|check\n"
 FAILED = b"input or output failed\n"
 
 
 class Examples(support.TestCase):
-    """The stored run of the program, and those examples that docs/GUIDE.md doesn't run."""
+    """The stored run of the program, and those examples that no page runs."""
 
     def test_stored_run(self):
         text = (ROOT / "examples" / "first.steps").read_bytes()
         output = (ROOT / "crates" / "messagehub" / "stdout").read_bytes()
         self.assert_outcome(outcome_of([PROGRAM, "steps"], text), Outcome(output, b"", 0))
         self.says(output.count(b"\n"), "lines", 5)
-
-    def test_logs(self):
-        text = (ROOT / "examples" / "run.log").read_bytes()
-        self.assert_outcome(outcome_of([PROGRAM, "check"], text), Outcome(b"clean\n", b"", 0))
-        self.says(text.count(b"\n"), "lines", 5)
 
     def test_scripts(self):
         """The runs in tests/runs are compared up to the order that no rule fixes."""
@@ -41,14 +35,10 @@ class Examples(support.TestCase):
 
 
 class Arguments(support.TestCase):
-    """Anything but one of the three words is answered with the usage."""
-
     shows = frozenset({"usage: messagehub steps|run|check"})
 
     def test_arguments(self):
-        others = [
-            [], ["run", "run"], ["fly"], [""], ["steps", "steps"], ["--help"], [b"steps\xff"],
-        ]
+        others = [[], ["run", "run"], ["fly"], [""], ["steps", "steps"], ["--help"], [b"steps\xff"]]
         for words in others:
             with self.subTest(words=words):
                 found = outcome_of([PROGRAM, *words], b"agent -\n")
@@ -77,15 +67,38 @@ class Streams(support.TestCase):
         self.says(count, "streams", 9)
 
     def test_directory_as_input(self):
-        with tempfile.TemporaryDirectory() as folder:
-            for mode in MODES:
-                with self.subTest(mode=mode):
-                    self.assert_outcome(self.outcome_of_folder(mode, folder), self.WANTED)
+        directory = os.open(self.folder, os.O_RDONLY)
+        self.addCleanup(os.close, directory)
+        for mode in MODES:
+            with self.subTest(mode=mode):
+                found = outcome_of([PROGRAM, mode], text=None, stdin=directory)
+                self.assert_outcome(found, self.WANTED)
         self.says(len(MODES), "modes")
 
-    def outcome_of_folder(self, mode, folder):
-        directory = os.open(folder, os.O_RDONLY)
-        try:
-            return outcome_of([PROGRAM, mode], text=None, stdin=directory)
-        finally:
-            os.close(directory)
+
+class Settled(support.TestCase):
+    """Of a run only that order is left out of account which no rule fixes."""
+
+    LOGS = (
+        b"hublog 3\nagent 0\nput 1 0 0:0 - 1\nput 1 0 0:1 - 2\ngot 0 0 0:0 4 3\nadopted 4 1\n"
+        b"got 0 0 0:1 - 4\ngot 0 1 0:0 - 5\nclosed 0\ndeliveries\nend 0 line 0 0:0\nclean\n"
+    )
+
+    def exchanged(self, one, other):
+        self.assertIn(one + other, self.LOGS)
+        return self.LOGS.replace(one + other, other + one)
+
+    def test_orders(self):
+        own, got = b"put 1 0 0:1 - 2\n", b"got 0 0 0:0 4 3\nadopted 4 1\n"
+        line_0, line_1 = b"got 0 0 0:1 - 4\n", b"got 0 1 0:0 - 5\n"
+        free = [self.exchanged(own, got), self.exchanged(line_0, line_1)]
+        fixed = [
+            self.exchanged(b"put 1 0 0:0 - 1\n", own),
+            self.exchanged(got, line_0),
+            self.exchanged(b"adopted 4 1\n", line_0),
+            self.exchanged(b"got 0 0 0:0 4 3\n", b"adopted 4 1\n"),
+            self.exchanged(b"end 0 line 0 0:0\n", b"clean\n"),
+        ]
+        wanted = settled(self.LOGS)
+        self.each(free, "free orders", lambda it: self.assertEqual(settled(it), wanted))
+        self.each(fixed, "fixed orders", lambda it: self.assertNotEqual(settled(it), wanted))

@@ -1,4 +1,4 @@
-"""Tests of the recorders of record/: on Node's own channels, and those of Python and Rust."""
+"""Tests of the recorders of record/: on Node's own channels, and those of Python, Rust and C."""
 
 import importlib.util
 import os
@@ -7,35 +7,21 @@ import queue
 import random
 import shutil
 import sys
-import tempfile
-import unittest
 
 import planted
 import support
-from support import PROGRAM, ROOT, TESTS, outcome_of
+from support import IS_BUILT, MERGE, PROGRAM, ROOT, TESTS, outcome_of
 
 RECORD = TESTS / "record"
-MERGE = ROOT / "record" / "merge"
 PROGRAMS = 7
 SEEDS = range(32)
 PARTS = 8
-needs_node = unittest.skipIf(shutil.which("node") is None, "node, which is not on the PATH")
-needs_rustc = unittest.skipIf(shutil.which("rustc") is None, "rustc, which is not on the PATH")
+needs_node = support.needs("node")
 
 
 class Case(support.TestCase):
-    """A test with a folder of its own."""
-
-    def setUp(self):
-        folder = tempfile.TemporaryDirectory(prefix="logs of a run ")
-        self.addCleanup(folder.cleanup)
-        self.folder = pathlib.Path(folder.name)
-
     def node(self, name, *words):
-        """What a script of tests/record/ prints."""
-        found = outcome_of(["node", "--no-warnings", RECORD / name, *map(str, words)])
-        self.assertEqual((found.errors.decode(), found.status), ("", 0))
-        return found.output.decode()
+        return self.ran(["node", "--no-warnings", RECORD / name, *map(str, words)]).decode()
 
     def merged(self, *words):
         return outcome_of([MERGE, *words])
@@ -44,13 +30,12 @@ class Case(support.TestCase):
         """Nothing is found but that a log was cut."""
         words = [ROOT / "tools" / "report", "--allow-waiting", folder]
         for word, status in [("--json", 2 if is_cut else 0), ("--allow-cut", 0)]:
-            found = outcome_of([*words, word])
-            self.assertEqual((found.errors, found.status), (b"", status), found.output)
+            self.ran([*words, word], status=status)
 
     def verdict(self, logs):
         """What the second checker says of logs, and the program, where there is one."""
         checkers = [[ROOT / "tools" / "judge"]]
-        if os.access(PROGRAM, os.X_OK):
+        if IS_BUILT:
             checkers.append([PROGRAM, "check"])
         verdicts = {outcome_of(words, logs).output.decode() for words in checkers}
         self.assertEqual(len(verdicts), 1, verdicts)
@@ -61,13 +46,8 @@ def words_of(logs, word):
     return sum(line.startswith(word) for line in logs.splitlines())
 
 
-# Node
-
-
 @needs_node
 class Node(Case):
-    """Random programs on Node's own channels are clean."""
-
     time_limit = 240
 
     def run_part(self, part):
@@ -111,35 +91,23 @@ class Node(Case):
         self.check_report(folder, True)
 
 
-def method_of(part):
-    return lambda self: self.run_part(part)
-
-
-for _part in range(PARTS):
-    setattr(Node, f"test_part_{_part}", method_of(_part))
+support.add_tests(Node, Node.run_part, {f"part_{part}": part for part in range(PARTS)})
 
 
 @needs_node
 class Wrong(Case):
-    """What goes wrong between sender and receiver is named by its kind."""
-
     # Three messages are posted at an end that is new; before those at a worker comes its data.
     ROUTES = {"port": (17, 0), "worker": (1, 1), "broadcast": (16, 0)}
     # What happens to the second message, at which place that shows, and the kind.
     CHANGES = {
-        "drop": (1, "Gap"),
-        "double": (2, "Twice"),
-        "swap": (1, "Gap"),
-        "change": (1, "Changed"),
+        "drop": (1, "Gap"), "double": (2, "Twice"), "swap": (1, "Gap"), "change": (1, "Changed"),
         "rename": (1, "Foreign"),
     }
 
     def verdict_of(self, script, *words):
         folder = self.folder / "-".join(words)
         self.node(script, folder, *words)
-        found = self.merged(folder)
-        self.assertEqual((found.errors, found.status), (b"", 0))
-        return self.verdict(found.output)
+        return self.verdict(self.ran([MERGE, folder]))
 
     def test_changes(self):
         for route, (end, first) in self.ROUTES.items():
@@ -168,8 +136,6 @@ def digest(text):
 
 @needs_node
 class Bodies(Case):
-    """Bodies past the limits are written as digests, and the rest is refused by name."""
-
     FIRST = [
         "null",
         '{"b":1,"a":[true,"é\u2028\\n"]}',
@@ -227,12 +193,11 @@ class Broker(Case):
             folder = self.folder / way
             folder.mkdir()
             self.node("broker.mjs", folder, way)
-            found = outcome_of([ROOT / "tools" / "report", folder])
-            self.assertEqual((found.errors, found.status), (b"", status), found)
-            self.assertTrue(found.output.startswith(said), found.output)
+            found = self.ran([ROOT / "tools" / "report", folder], status=status)
+            self.assertTrue(found.startswith(said), found)
         for said in ("out of order, 0:2 is got nowhere, 0:3 came 1 place later",
                      "passed over, 0:5 is got nowhere"):
-            self.assertIn(f": {said}\n".encode(), found.output)
+            self.assertIn(f": {said}\n".encode(), found)
         self.says(len(ways), "ways")
 
 
@@ -269,14 +234,12 @@ def python_recorder():
 
 
 class Python(Case):
-    """record/hublog.py writes the log of a small program, and refuses wrong arguments by name."""
-
     def setUp(self):
         super().setUp()
         self.recorder = python_recorder()
         self.path = self.folder / "agent 3.log"
 
-    def write(self, log):
+    def log_all(self, log):
         log.put(1, 0, 0, 0, [], {"count": 1})
         log.put(65_535, 31, 65_535, 2**62 - 1, [*range(15), 65_535], None)
         log.got(2, 0, 0, 0, [5], (True, "a\nb"))
@@ -331,7 +294,7 @@ class Python(Case):
 
     def test_log(self):
         with self.recorder.Recorder(self.path, 3) as log:
-            self.write(log)
+            self.log_all(log)
             refusals = self.refusals(log)
             self.check_putting(log)
             self.assertEqual(self.path.read_bytes() + b"deliveries\n", LOG.encode())
@@ -379,8 +342,7 @@ class Kinds(Case):
         "changes": ([ONE, (1, "two!"), THREE, NOTICE], 4, "fault 1 0 1 Changed"),
         "renames": ([ONE, (7, "two"), THREE, NOTICE], 4, "fault 1 0 1 Foreign"),
         "delivers after the close": ([ONE, TWO, THREE], 2, "fault 1 0 2 AfterClose"),
-        "delivers after the notice": ([ONE, TWO, THREE, NOTICE, TWO], 5,
-                                      "fault 1 0 4 AfterNotice"),
+        "delivers after the notice": ([ONE, TWO, THREE, NOTICE, TWO], 5, "fault 1 0 4 AfterNotice"),
     }
 
     def test_kinds(self):
@@ -391,20 +353,18 @@ class Kinds(Case):
                 folder.mkdir()
                 with create(folder / "0.log", 0) as sender, create(folder / "1.log", 1) as receiver:
                     for number, body in self.WAYS["right"][0]:
-                        self.write(sender.put, sender.put_notice, number, body)
+                        self.log(sender.put, sender.put_notice, number, body)
                     for number, body in delivered[:closed_at]:
-                        self.write(receiver.got, receiver.got_notice, number, body)
+                        self.log(receiver.got, receiver.got_notice, number, body)
                     receiver.closed(1)
                     for number, body in delivered[closed_at:]:
-                        self.write(receiver.got, receiver.got_notice, number, body)
-                found = self.merged(folder)
-                self.assertEqual((found.errors, found.status), (b"", 0))
-                self.assertEqual(self.verdict(found.output), verdict)
+                        self.log(receiver.got, receiver.got_notice, number, body)
+                self.assertEqual(self.verdict(self.ran([MERGE, folder])), verdict)
         kinds = {verdict.rpartition(" ")[2] for _, _, verdict in self.WAYS.values()} - {"clean"}
         self.says(len(kinds), "kinds", 6)
 
     @staticmethod
-    def write(message, notice, number, body):
+    def log(message, notice, number, body):
         if body is None:
             notice(1, 0, 0, number)
         else:
@@ -420,8 +380,6 @@ def nested(depth):
 
 @needs_node
 class JavaScript(Case):
-    """The Recorder of record/hublog.mjs does the same, to a file or by a function."""
-
     def test_log(self):
         path = self.folder / "agent 3.log"
         # All that JavaScript has is a body, or has a digest.
@@ -435,10 +393,8 @@ class JavaScript(Case):
         self.says(len(refusals), "refusals", 17)
 
 
-@needs_rustc
+@support.needs("rustc")
 class Rust(Case):
-    """record/hublog.rs does the same."""
-
     TEXTS = [
         '"\\ud83d\\ude00"', "18446744073709551615", "-9223372036854775808", ' [ {"a" : [ ] } ] ',
         '{"a":1,"b":[true,false,null]}', "[" * 64 + "]" * 64, f'"{"x" * 262_142}"',
@@ -456,21 +412,17 @@ class Rust(Case):
         super().setUp()
         self.program = self.folder / "fixed"
         words = ["rustc", "--edition", "2021", "-D", "warnings", "-o", self.program]
-        found = outcome_of([*words, RECORD / "fixed.rs"])
-        self.assertEqual((found.errors.decode(), found.status), ("", 0))
+        self.ran([*words, RECORD / "fixed.rs"])
 
     def test_log(self):
         path = self.folder / "agent 3.log"
-        found = outcome_of([self.program, path])
-        self.assertEqual((found.errors, found.status), (b"", 0))
-        self.assertEqual(found.output.decode().split(), REFUSALS)
+        self.assertEqual(self.ran([self.program, path]).decode().split(), REFUSALS)
         self.assertEqual(path.read_bytes(), LOG.encode())
         self.says(len(REFUSALS), "refusals", 19)
 
     def test_bodies(self):
-        path = self.folder / "texts"
         texts = self.TEXTS + self.PAST + self.NONE
-        path.write_text("\n".join([*texts, ""]), "utf-8")
+        path = self.write("texts", "\n".join([*texts, ""]))
         found = outcome_of([self.program, "texts", path])
         self.assertEqual(found.output.decode().split(), ["NotJson"] * len(self.NONE))
         log = pathlib.Path(f"{path}.log").read_text("utf-8")
@@ -487,12 +439,50 @@ class Rust(Case):
         found = outcome_of([self.program, "late", self.folder / "logs"])
         self.assertNotEqual(found.status, 0, "it made logs in no folder")
         (self.folder / "logs").mkdir()
-        found = outcome_of([self.program, "late", self.folder / "logs"])
-        self.assertEqual((found.errors, found.status), (b"", 0))
-        merged = self.merged(self.folder / "logs")
-        self.assertEqual((merged.errors, merged.status), (b"", 0))
-        self.assertEqual(self.verdict(merged.output), "fault 1 0 2 AfterNotice")
+        self.ran([self.program, "late", self.folder / "logs"])
+        merged = self.ran([MERGE, self.folder / "logs"])
+        self.assertEqual(self.verdict(merged), "fault 1 0 2 AfterNotice")
         self.says(3, "deliveries")
+
+
+# The digests are those of FNV-1a's published test vectors.
+LOG_IN_C = """\
+hublog 3
+agent 15
+put 1 0 0:0 - {"digest":"fnv1a64 cbf29ce484222325 of 0 bytes"}
+put 1 0 0:1 65535,65534 {"digest":"fnv1a64 85944171f73967e8 of 6 bytes"}
+put 1 0 0:2 notice
+got 1 0 0:0 - {"digest":"fnv1a64 cbf29ce484222325 of 0 bytes"}
+adopted 65535 65535
+got 1 0 0:1 65535,65534 {"digest":"fnv1a64 85944171f73967e8 of 6 bytes"}
+got 1 0 0:2 notice
+closed 1
+deliveries
+"""
+WARNINGS = ["-Wall", "-Wextra", "-Werror", "-pedantic", "-fsanitize=address,undefined"]
+
+
+class HublogH(Case):
+    """record/hublog.h in C and in C++: what it writes, and what it refuses."""
+
+    def test_calls(self):
+        compilers = {"gcc": "-std=gnu11", "g++": "-std=c++17"}
+        found = {name: word for name, word in compilers.items() if shutil.which(name)}
+        if not found:
+            self.skipTest("gcc and g++, which are not on the PATH")
+        answers = 0
+        for compiler, standard in found.items():
+            with self.subTest(compiler=compiler):
+                logs = self.folder / compiler
+                logs.mkdir()
+                program = self.folder / "hublog"
+                words = [compiler, standard, *WARNINGS, f"-I{ROOT / 'record'}", "-o", program]
+                language = "c" if compiler == "gcc" else "c++"
+                self.ran([*words, "-x", language, RECORD / "hublog.c"])
+                self.assertEqual(self.ran([program, logs]), b"answers: 35\n")
+                self.assertEqual((logs / "agent-15.log").read_text(encoding="utf-8"), LOG_IN_C)
+                answers += 35
+        self.says(answers, "answers", 35)
 
 
 # Merging
@@ -502,10 +492,8 @@ OTHER = ["hublog 3", "agent 1", 'got 1 0 0:0 - "one"', 'got 1 0 0:1 - "two"', "d
 
 
 class Merge(Case):
-    """record/merge joins whole logs, and names what is cut or missing."""
-
-    def write(self, number, lines):
-        (self.folder / f"agent-{number}.log").write_text("\n".join(lines), "utf-8")
+    def log(self, number, lines):
+        self.write(f"agent-{number}.log", "\n".join(lines))
 
     def check(self, status, output, *errors):
         found = self.merged(self.folder)
@@ -516,38 +504,38 @@ class Merge(Case):
         self.assertNotIn(b"Traceback", found.errors)
 
     def test_whole(self):
-        self.write(1, OTHER)
-        self.write(0, ONE)
-        (self.folder / "notes.txt").write_text("no log", "utf-8")
+        self.log(1, OTHER)
+        self.log(0, ONE)
+        self.write("notes.txt", "no log")
         self.check(0, "\n".join(ONE[:-2] + OTHER[1:-2] + [""]))
         self.says(1, "merge")
 
     def test_cut(self):
         """What only a log says that was cut is missing, and nothing else is told for a fault."""
         left = "1 entries are left out"
-        self.write(1, OTHER)
-        self.write(0, ONE[:3] + ['put 1 0 0:1 - "t'])
+        self.log(1, OTHER)
+        self.log(0, ONE[:3] + ['put 1 0 0:1 - "t'])
         wanted = "\n".join(ONE[:3] + OTHER[1:3] + [""])
         self.check(1, wanted, "agent 0 was cut", left)
         self.assertEqual(self.verdict(wanted.encode()), "clean")
         whole = self.merged("--whole", self.folder)
         self.assertEqual(self.verdict(whole.output), "fault 1 0 1 Foreign")
-        self.write(0, ONE)
-        self.write(1, OTHER[:2] + [""])
-        self.write(2, ["hublog 3", "agent 2", "adopted 1 1", OTHER[3], "deliveries", ""])
+        self.log(0, ONE)
+        self.log(1, OTHER[:2] + [""])
+        self.log(2, ["hublog 3", "agent 2", "adopted 1 1", OTHER[3], "deliveries", ""])
         wanted = "\n".join(ONE[:-2] + ["agent 1", "agent 2", "adopted 1 1", ""])
         self.check(1, wanted, "agent 1 was cut", left)
         self.says(2, "cut logs")
 
     def test_missing(self):
-        self.write(0, ONE)
-        self.write(2, ["hublog 3", "agent 2", "deliveries", ""])
+        self.log(0, ONE)
+        self.log(2, ["hublog 3", "agent 2", "deliveries", ""])
         self.check(1, "\n".join(ONE[:-2] + ["agent 2", ""]), "agent 1 has no log", "0 entries")
         for text in ["", "hub", "hublog 3", "hublog 3\n", "hublog 3\nagent"]:
-            self.write(1, [text])
+            self.log(1, [text])
             self.check(1, "\n".join(ONE[:-2] + ["agent 2", ""]), "cut before its first entry")
-        self.write(1, OTHER)
-        self.write(2, ["hublog 3", "agent 2", "meets 3", "deliveries", ""])
+        self.log(1, OTHER)
+        self.log(2, ["hublog 3", "agent 2", "meets 3", "deliveries", ""])
         wanted = "\n".join(ONE[:-2] + OTHER[1:-2] + ["agent 2", ""])
         self.check(1, wanted, "agent 3 has no log", "0 entries")
         self.says(7, "logs")
@@ -563,17 +551,17 @@ class Merge(Case):
             lines = ["hublog 3", "agent 0"][: min(2, number - 1)] + [line, *ONE[3:]]
             if number == 1:
                 lines[1:1] = ["agent 0"]
-            self.write(0, lines)
+            self.log(0, lines)
             self.check(2, "", f"agent-0.log: line {number}: {kind}")
-        self.write(0, ONE)
-        self.write(1, ONE)
+        self.log(0, ONE)
+        self.log(1, ONE)
         self.check(2, "", "has a log of agent 0 too")
         self.says(len(rows) + 1, "bad inputs", 9)
 
     def test_casts(self):
         """A cast is put at each channel that hears it, from the first that it got to the last."""
-        self.write(0, [*ONE[:2], *(f"cast 9 {it} {it}" for it in range(4)), *ONE[-2:]])
-        self.write(1, [*OTHER[:2], "hears 5 0 9", "got 5 0 0:1 - 1", "hears 6 3 9",
+        self.log(0, [*ONE[:2], *(f"cast 9 {it} {it}" for it in range(4)), *ONE[-2:]])
+        self.log(1, [*OTHER[:2], "hears 5 0 9", "got 5 0 0:1 - 1", "hears 6 3 9",
                        "got 5 0 0:2 - 2", "got 6 3 0:3 - 3", *ONE[-2:]])
         puts = ["put 5 0 0:1 - 1", "put 5 0 0:2 - 2", "put 6 3 0:3 - 3"]
         gots = ["got 5 0 0:1 - 1", "got 5 0 0:2 - 2", "got 6 3 0:3 - 3"]
@@ -584,15 +572,11 @@ class Merge(Case):
 
     def test_words(self):
         """Wrong words, and an empty folder, are told in one line with status 2."""
+        settings = {**os.environ, "LC_ALL": "C"}
         for words in [[], ["--fly"], [self.folder], [self.folder / "no folder"]]:
-            found = outcome_of([MERGE, *words], env={**os.environ, "LC_ALL": "C"})
-            self.assertEqual((found.output, found.status), (b"", 2), found)
-            self.assertNotIn(b"Traceback", found.errors)
-            self.assertIn(b"record/merge: ", found.errors)
-        found = outcome_of([MERGE, "--help"], env={**os.environ, "LC_ALL": "C"}, cwd="/")
-        self.assertEqual((found.errors, found.status), (b"", 0))
-        self.write(0, ONE[:2] + ONE[2:3] * 100_000 + ONE[-2:])
+            self.assert_refused([MERGE, *words], "record/merge: ", env=settings)
+        self.log(0, ONE[:2] + ONE[2:3] * 100_000 + ONE[-2:])
         pipe = f'"{MERGE}" "{self.folder}" | head -1'
         found = outcome_of(["bash", "-c", pipe])
         self.assertEqual((found.output, found.errors), (b"hublog 3\n", b""))
-        self.says(6, "calls")
+        self.says(5, "calls")

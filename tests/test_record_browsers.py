@@ -11,6 +11,7 @@ import threading
 import urllib.parse
 
 import planted
+import support
 import test_record
 from support import ROOT, TESTS
 
@@ -27,8 +28,6 @@ BROWSERS = {
 
 
 class Handler(http.server.BaseHTTPRequestHandler):
-    """Gives the files of the tests, and takes the logs of the agents."""
-
     def do_GET(self):
         url = urllib.parse.urlsplit(self.path)
         if url.path == "/ended":
@@ -100,8 +99,6 @@ def browser(name, url):
 
 
 class Browsers(test_record.Case):
-    """The same in a page with two workers, a frame and a service worker."""
-
     time_limit = 240
 
     def visit(self, name, page, seconds):
@@ -120,9 +117,7 @@ class Browsers(test_record.Case):
         folder.mkdir()
         for agent, text in logs.items():
             (folder / f"agent-{agent}.log").write_bytes(text)
-        found = self.merged(folder)
-        self.assertEqual((found.errors, found.status), (b"", 0))
-        return found.output
+        return self.ran([test_record.MERGE, folder])
 
     def check_random(self, name):
         said, runs = self.visit(name, f"page.html?seed=1&last={SEEDS}", 200)
@@ -156,11 +151,11 @@ class Browsers(test_record.Case):
         self.assertEqual(found, wanted)
         self.says(len(found), "programs", 18)
 
-    def check_way(self, way, wanted):
+    def check_way(self, way):
         """What each browser does, and what the checker and the report say of it. One that isn't
         there is named."""
         count = 0
-        for name, (heard, verdict, kinds) in wanted.items():
+        for name, (heard, verdict, kinds) in zip(BROWSERS, WAYS[way], strict=True):
             with self.subTest(browser=name):
                 said, runs = self.visit(name, f"departures.html?seed=0&way={way}", 60)
                 merged = self.merge_logs("0", runs["0"])
@@ -171,42 +166,23 @@ class Browsers(test_record.Case):
         if count:
             self.says(count, "browsers")
 
-    def test_chromium(self):
-        self.check_random("chromium")
 
-    def test_firefox(self):
-        self.check_random("firefox-esr")
-
-    def test_changes_in_chromium(self):
-        self.check_changes("chromium")
-
-    def test_changes_in_firefox(self):
-        self.check_changes("firefox-esr")
-
-    def test_messages_wait_at_a_closed_port(self):
-        """Firefox delivers them, which is a fault of the logs. Chromium drops them."""
-        self.check_way("closed", {
-            "chromium": ("", "clean", "Lost"),
-            "firefox-esr": ("port one, port two", "fault 17 0 0 AfterClose", "AfterClose"),
-        })
-
-    def test_peer_is_closed_before_the_port_is_sent(self):
-        """Firefox loses the messages."""
-        self.check_way("peerClosed", {
-            "chromium": ("sent port one, sent port two", "clean", ""),
-            "firefox-esr": ("", "clean", "Lost"),
-        })
-
-    def test_port_is_sent_with_messages_under_way(self):
-        """Firefox delivers the first at the old port: in order, but its owner has sent it away."""
-        self.check_way("underWay", {
-            "chromium": ("sent port one, sent port two", "clean", ""),
-            "firefox-esr": ("old port one, sent port two", "clean", "NotOwner"),
-        })
-
-    def test_closed_port_is_sent(self):
-        """Chromium accepts it, and nothing comes there, so that the logs are clean."""
-        self.check_way("closedSent", {
-            "chromium": ("accepted", "clean", ""),
-            "firefox-esr": ("DataCloneError", "clean", ""),
-        })
+# What each way comes to in Chromium, and in Firefox.
+WAYS = {
+    # Messages wait at a closed port. Firefox delivers them, which is a fault of the logs. Chromium
+    # drops them.
+    "closed": [("", "clean", "Lost"),
+               ("port one, port two", "fault 17 0 0 AfterClose", "AfterClose")],
+    # The peer is closed before the port is sent. Firefox loses the messages.
+    "peerClosed": [("sent port one, sent port two", "clean", ""), ("", "clean", "Lost")],
+    # A port is sent with messages under way. Firefox delivers the first at the old port: in order,
+    # but its owner has sent it away.
+    "underWay": [("sent port one, sent port two", "clean", ""),
+                 ("old port one, sent port two", "clean", "NotOwner")],
+    # A closed port is sent. Chromium accepts it, and nothing comes there, so the logs are clean.
+    "closedSent": [("accepted", "clean", ""), ("DataCloneError", "clean", "")],
+}
+support.add_tests(Browsers, Browsers.check_way, {way: way for way in WAYS})
+NAMES = {"chromium": "chromium", "firefox": "firefox-esr"}
+support.add_tests(Browsers, Browsers.check_random, NAMES)
+support.add_tests(Browsers, Browsers.check_changes, {f"changes_in_{it}": NAMES[it] for it in NAMES})

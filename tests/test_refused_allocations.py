@@ -30,6 +30,9 @@ ROWS = {
     ],
 }
 
+# How many calls are refused at least.
+FLOORS = {"steps": 100, "check": 10, "run": 100}
+
 # The rows that are played on the running parts with each allocation refused.
 PLAYED = [
     "arrived-port-closed", "client-queue-goes-on", "long-body-taken", "sixteen-ports",
@@ -39,10 +42,7 @@ PLAYED = [
 # Bodies that are compact already, each of which is posted too in a list beside the string, and one
 # that isn't.
 COMPACT_BODIES = [
-    "[true,false]",
-    "[0,-12,123456789012345678]",
-    '"é 😀"',
-    '"\\"\\\\\\b\\f\\n\\r\\t/"',
+    "[true,false]", "[0,-12,123456789012345678]", '"é 😀"', '"\\"\\\\\\b\\f\\n\\r\\t/"',
     '[[],{},[1,{"a":[2]}]]',
     '{"":"x","a":{"b":null},"aa":1}',
 ]
@@ -52,15 +52,8 @@ SPACED_BODY = "[true, false]"
 INLINE_BYTES = 24
 
 
-class Refusing(support.TestCase):
-    """What refuses the allocations of a run."""
-
+class Refusing(support.RefusingCase):
     time_limit = 300
-
-    @classmethod
-    def setUpClass(cls):
-        cls.refuser = support.Refuser()
-        cls.addClassCleanup(cls.refuser.close)
 
     def outcomes(self, words, text=b""):
         """The outcome with the first call refused, with the second, and so on.
@@ -137,7 +130,7 @@ def right_outcomes(row):
 
 
 def right_turns(row):
-    """The same where a loop closes the ports. The last turn gets a notice, and then it gets none."""
+    """The same where a loop closes the ports. The last turn gets a notice, and then none."""
     lines, found = row.output.splitlines(keepends=True), [row.output]
     for at, line in enumerate(lines):
         if line.startswith(b"notice "):
@@ -169,7 +162,7 @@ class Program(Refusing):
             refused += was_refused
         return refused
 
-    def refuse_rows(self, mode, floor):
+    def refuse_rows(self, mode):
         calls = 0
         for name in ROWS[mode]:
             with self.subTest(row=name):
@@ -177,16 +170,7 @@ class Program(Refusing):
                 self.assertGreater(count, 0, "no call was refused")
                 calls += count
         self.says(len(ROWS[mode]), "rows")
-        self.says(calls, "calls", floor)
-
-    def test_steps(self):
-        self.refuse_rows("steps", 100)
-
-    def test_check(self):
-        self.refuse_rows("check", 10)
-
-    def test_run(self):
-        self.refuse_rows("run", 100)
+        self.says(calls, "calls", FLOORS[mode])
 
     def calls_for(self, body):
         """How many calls a post of the body makes in all."""
@@ -211,6 +195,9 @@ class Program(Refusing):
         self.says(len(bodies), "bodies")
 
 
+support.add_tests(Program, Program.refuse_rows, {mode: mode for mode in ROWS})
+
+
 def functions_of(crate):
     """The names of the tests of that kind in the sources of a crate."""
     head = re.compile(rf"^\s*fn (\w*{ENDING})\b", re.MULTILINE)
@@ -219,9 +206,7 @@ def functions_of(crate):
 
 
 CRATES = {
-    crate: names
-    for crate in sorted((ROOT / "crates").iterdir())
-    if (names := functions_of(crate))
+    crate: names for crate in sorted((ROOT / "crates").iterdir()) if (names := functions_of(crate))
 }
 
 
@@ -242,9 +227,8 @@ class Crates(Refusing):
 
     def listed(self, program):
         """The tests of that kind in a test program, by the names that it lists."""
-        found = outcome_of([program, "--list"])
-        self.assertEqual(found.status, 0, f"--list: {found}")
-        names = re.findall(r"^(.*): test$", found.output.decode(), re.MULTILINE)
+        found = self.ran([program, "--list"]).decode()
+        names = re.findall(r"^(.*): test$", found, re.MULTILINE)
         return [name for name in names if name.endswith(ENDING)]
 
     def refuse(self, program, name):
@@ -263,9 +247,4 @@ class Crates(Refusing):
         self.says(sum(map(len, CRATES.values())), "tests in the sources", 17)
 
 
-def method_of(crate):
-    return lambda self: self.refuse_in(crate)
-
-
-for _crate in CRATES:
-    setattr(Crates, f"test_{_crate.name}", method_of(_crate))
+support.add_tests(Crates, Crates.refuse_in, {crate.name: crate for crate in CRATES})

@@ -7,23 +7,21 @@ line that says so, and the status is 4. Where no call is reached that fails, the
 one.
 """
 
+import functools
+
 import support
 from support import PROGRAM, Outcome
 
 MESSAGE = b"input or output failed\n"
 
 
-class Streams(support.TestCase):
-    """A byte a call, and one call that fails."""
-
+class Streams(support.RefusingCase):
     shows = frozenset({"status 4", "input or output failed"})
     time_limit = 300
 
-    @classmethod
-    def setUpClass(cls):
-        cls.refuser = support.Refuser()
-        cls.addClassCleanup(cls.refuser.close)
-        cls.row = support.row("steps", "every")
+    @functools.cached_property
+    def row(self):
+        return support.row("steps", "every")
 
     def fail_in_turn(self, setting, output_after, calls):
         """Fails so many calls in turn, and then none."""

@@ -1,11 +1,9 @@
 """Makes a release by tools/release, and tries what becomes of one that is wrong."""
 
-import pathlib
 import re
 import shutil
 import subprocess
 import tarfile
-import tempfile
 
 import support
 from support import PROGRAM, ROOT, outcome_of
@@ -15,14 +13,7 @@ BUILT = ROOT / "embed" / "out" / "BUILT"
 
 
 class Release(support.TestCase):
-    """A release, with its trial in an empty folder."""
-
     time_limit = 300
-
-    def setUp(self):
-        folder = tempfile.TemporaryDirectory(prefix="a release ")
-        self.addCleanup(folder.cleanup)
-        self.folder = pathlib.Path(folder.name)
 
     def test_release(self):
         if not BUILT.is_file():
@@ -51,30 +42,22 @@ class Release(support.TestCase):
 
 
 class Launched(support.TestCase):
-    """The launcher in a folder of a release: it builds nothing, whatever lies on the path."""
-
     def test_launcher(self):
-        with tempfile.TemporaryDirectory(prefix="a release ") as folder:
-            root = pathlib.Path(folder)
-            (root / "libexec").mkdir()
-            shutil.copy(ROOT / "messagehub", root)
-            shutil.copy(ROOT / "CHANGELOG.md", root)
-            shutil.copy(PROGRAM, root / "libexec" / "messagehub")
-            (root / "BUILT").write_text("version 1.0.0\ncommit abc\n", encoding="utf-8")
-            run = [root / "messagehub"]
-            self.assertEqual(outcome_of([*run, "check"]), (b"clean\n", b"", 0))
-            path = {"PATH": "/usr/bin:/bin"}
-            told = outcome_of([*run, "--version"], env=path).output.decode().splitlines()
-            self.assertEqual(told[0], "messagehub 1.0.0 (abc)")
-            found = outcome_of([*run, "--unproved", "check"])
-            said = b"messagehub: this needs the sources, which a release has not\n"
-            self.assertEqual(found, (b"", said, 70))
+        self.write("BUILT", "version 1.0.0\ncommit abc\n")
+        (self.folder / "libexec").mkdir()
+        for source, to in [(ROOT / "messagehub", "."), (ROOT / "CHANGELOG.md", "."),
+                           (PROGRAM, "libexec/messagehub")]:
+            shutil.copy(source, self.folder / to)
+        run = [self.folder / "messagehub"]
+        self.assertEqual(self.ran([*run, "check"]), b"clean\n")
+        told = self.ran([*run, "--version"], env={"PATH": "/usr/bin:/bin"}).decode().splitlines()
+        self.assertEqual(told[0], "messagehub 1.0.0 (abc)")
+        said = b"messagehub: this needs the sources, which a release has not\n"
+        self.assertEqual(outcome_of([*run, "--unproved", "check"]), (b"", said, 70))
         self.says(3, "calls")
 
 
 class Parts(support.TestCase):
-    """What a release is made of."""
-
     def test_man_page(self):
         page = tool("release").man_page("1.0.0")
         text = subprocess.run(
@@ -92,15 +75,13 @@ class Parts(support.TestCase):
     def test_changed_library(self):
         """A file that isn't the one that was built is no part of a release."""
         release = tool("release")
-        with tempfile.TemporaryDirectory() as folder:
-            release.LIBRARY = pathlib.Path(folder)
-            (release.LIBRARY / "NOTICE").write_text("a", encoding="utf-8")
-            lines = f"commit abc\n{release.sum_of(b'a')}  NOTICE\n"
-            (release.LIBRARY / "BUILT").write_text(lines, encoding="utf-8")
-            self.assertEqual(list(release.library_files(False, "abc")), ["NOTICE"])
-            with self.assertRaisesRegex(release.Refused, "of commit abc"):
-                release.library_files(False, "def")
-            (release.LIBRARY / "NOTICE").write_text("b", encoding="utf-8")
-            with self.assertRaisesRegex(release.Refused, "NOTICE isn't what"):
-                release.library_files(True, "abc")
+        release.LIBRARY = self.folder
+        self.write("NOTICE", "a")
+        self.write("BUILT", f"commit abc\n{release.sum_of(b'a')}  NOTICE\n")
+        self.assertEqual(list(release.library_files(False, "abc")), ["NOTICE"])
+        with self.assertRaisesRegex(release.Refused, "of commit abc"):
+            release.library_files(False, "def")
+        self.write("NOTICE", "b")
+        with self.assertRaisesRegex(release.Refused, "NOTICE isn't what"):
+            release.library_files(True, "abc")
         self.says(3, "folders")

@@ -3,29 +3,24 @@
 The sentences are written here from the rules of docs/FORMATS.md and of tools/verdict.py.
 """
 
+import concurrent.futures
 import json
-import multiprocessing
 import os
-import pathlib
 import pty
 import shutil
 import subprocess
-import tempfile
+import sys
 
 import planted
 import support
-from support import PROGRAM, ROOT, TESTS, outcome_of
+from support import IS_BUILT, MERGE, PROGRAM, REPORT, ROOT, SIMULATE, TESTS, outcome_of
 
 import generator
 import hublog
 import verdict
 import wrong
 
-REPORT = ROOT / "tools" / "report"
 ACCOUNT = ROOT / "tools" / "account"
-SIMULATE = TESTS / "simulate"
-MERGE = ROOT / "record" / "merge"
-IS_BUILT = os.access(PROGRAM, os.X_OK)
 # Where the program isn't built, the report judges alone.
 CHECKER = ["--program", PROGRAM] if IS_BUILT else []
 
@@ -109,23 +104,7 @@ def kinds(text, *words):
     return [it["kind"] for it in json.loads(found.output)["findings"]], found.status
 
 
-class Case(support.TestCase):
-    """A test with a folder of its own."""
-
-    def setUp(self):
-        folder = tempfile.TemporaryDirectory(prefix="a folder ")
-        self.addCleanup(folder.cleanup)
-        self.folder = pathlib.Path(folder.name)
-
-    def write(self, name, text):
-        path = self.folder / name
-        path.write_text(text, "utf-8")
-        return path
-
-
-class Table(Case):
-    """The bugs that `messagehub check` calls clean."""
-
+class Table(support.TestCase):
     def test_bugs(self):
         self.assertEqual(kinds(MOVED.replace("~", "")), ([], 0))
         for bug, (text, wanted) in TABLE.items():
@@ -141,109 +120,79 @@ class Table(Case):
         self.write("bad.log", "hublog 3\nagent 0\nput 1 0 0:0 -\ndeliveries\n")
         bad = f'"{MERGE}" "{self.folder}" | "{REPORT}"'
         for command in (merge, bad, f'"{REPORT}" < /dev/null'):
-            found = outcome_of(["bash", "-c", command])
-            self.assertEqual((found.output, found.status), (b"", 2), found)
-            self.assertIn(b"tools/report: nothing is recorded: <stdin>\n", found.errors)
+            said = "tools/report: nothing is recorded: <stdin>\n"
+            self.assert_refused(["bash", "-c", command], said)
         texts = ["", "hublog 3\n", "hublog 2\n", "hublog 3\nagent 0\n",
                  "hublog 3\nagent 0\ndeliveries\n"]
         for text in texts:
             with self.subTest(text=text):
                 path = self.write("empty", text)
-                found = outcome_of([REPORT, path])
-                self.assertEqual((found.output, found.status), (b"", 2))
-                self.assertIn(f"nothing is recorded: {path}\n", found.errors.decode())
+                self.assert_refused([REPORT, path], f"nothing is recorded: {path}\n")
         for name, said in [("none", "No such file"), ("bad.log", "line 3: BadLine")]:
-            found = outcome_of([REPORT, self.folder / name])
-            self.assertEqual((found.output, found.status), (b"", 2))
-            self.assertIn(said, found.errors.decode())
+            self.assert_refused([REPORT, self.folder / name], said)
         self.says(len(texts) + 5, "inputs", 10)
 
 
 class Faults(support.TestCase):
-    """A fault of each kind, as it is told."""
-
-    def tells(self, text, *lines):
-        found = report(text)
-        self.assertEqual(found.status, 1, found)
-        said = found.output.decode().splitlines()
-        for line in lines:
-            self.assertIn(line, said)
-        self.says(len(lines), "lines", 3)
-
-    def test_gap(self):
-        self.tells(
-            changed(('got 1 0 0:1 - "two"\n', "")),
+    TOLD = [
+        (changed(('got 1 0 0:1 - "two"\n', "")), [
             "wrong: 1 finding",
             "1. Gap at end 1, line 0: passed over, 0:1 is got nowhere",
             '   expected  <stdin>:4  agent 0  put 1 0 0:1 - "two"',
             '   came      <stdin>:9  agent 2  got 1 0 0:2 - "three"',
             "   accepted  0:0 [0:1] 0:2 0:3",
-            "   got       0:0 [0:2] 0:3",
-        )
-
-    def test_out_of_order(self):
-        """Each that was passed over is told with how many places later it came."""
-        self.tells(
-            swapped('got 1 0 0:0 - "one"', 'got 1 0 0:2 - "three"'),
+            "   got       0:0 [0:2] 0:3"]),
+        # Each that was passed over is told with how many places later it came.
+        (swapped('got 1 0 0:0 - "one"', 'got 1 0 0:2 - "three"'), [
             "wrong: 1 finding",
             "1. Gap at end 1, line 0: out of order, 0:0 came 2 places later",
             "   accepted  [0:0] 0:1 0:2 0:3",
-            "   got       [0:2] 0:1 0:0 0:3",
-        )
-
-    def test_twice(self):
-        """Agent 3 adopts the end, and gets again what agent 2 had got. The line goes on behind."""
-        self.tells(
-            changed(('got 1 0 0:1 - "two"', 'agent 3\nadopted 1 1\ngot 1 0 0:0 - "one"')),
+            "   got       [0:2] 0:1 0:0 0:3"]),
+        # Agent 3 adopts the end, and gets again what agent 2 had got. The line goes on behind.
+        (changed(('got 1 0 0:1 - "two"', 'agent 3\nadopted 1 1\ngot 1 0 0:0 - "one"')), [
             "wrong: 2 findings",
             "1. Twice at end 1, line 0: 0:0 was got twice",
             '   before  <stdin>:8   agent 2  got 1 0 0:0 - "one"',
             '   came    <stdin>:11  agent 3  got 1 0 0:0 - "one"',
             '   next    <stdin>:4   agent 0  put 1 0 0:1 - "two"',
             "   > adopted by agent 3 (<stdin>:10)",
-            "2. Gap at end 1, line 0: passed over, 0:1 is got nowhere",
-        )
-
-    def test_changed(self):
-        self.tells(
-            changed(('got 1 0 0:2 - "three"', 'got 1 0 0:2 7 "three"')),
+            "2. Gap at end 1, line 0: passed over, 0:1 is got nowhere"]),
+        (changed(('got 1 0 0:2 - "three"', 'got 1 0 0:2 7 "three"')), [
             "1. Changed at end 1, line 0: 0:2 was got with other ports than it was put",
             '   put   <stdin>:5   agent 0  put 1 0 0:2 - "three"',
-            '   came  <stdin>:10  agent 2  got 1 0 0:2 7 "three"',
-        )
-
-    def test_foreign(self):
-        self.tells(
-            changed(('got 1 0 0:1 - "two"', 'got 1 0 0:7 - "two"')),
+            '   came  <stdin>:10  agent 2  got 1 0 0:2 7 "three"']),
+        (changed(('got 1 0 0:1 - "two"', 'got 1 0 0:7 - "two"')), [
             "wrong: 2 findings",
             "1. Foreign at end 1, line 0: 0:7 was got, and nobody put it there",
             '   came  <stdin>:9  agent 2  got 1 0 0:7 - "two"',
             "   The same was put as 0:1 at end 1, line 0, by agent 0 (<stdin>:4).",
-            "2. Gap at end 1, line 0: passed over, 0:1 is got nowhere",
-        )
-
-    def test_after_notice(self):
-        self.tells(
-            changed(("put 1 0 0:3 notice", "put 1 0 0:2 notice"), ('put 1 0 0:2 - "three"\n', ""))
-            .replace('got 1 0 0:2 - "three"', "got 1 0 0:2 notice")
-            .replace("got 1 0 0:3 notice", 'got 1 0 0:3 - "more"'),
+            "2. Gap at end 1, line 0: passed over, 0:1 is got nowhere"]),
+        (changed(("put 1 0 0:3 notice", "put 1 0 0:2 notice"), ('put 1 0 0:2 - "three"\n', ""))
+         .replace('got 1 0 0:2 - "three"', "got 1 0 0:2 notice")
+         .replace("got 1 0 0:3 notice", 'got 1 0 0:3 - "more"'), [
             "1. AfterNotice at end 1, line 0: 0:3 was got after the notice of its line, which is"
             " the last",
             "   notice  <stdin>:9   agent 2  got 1 0 0:2 notice",
-            '   came    <stdin>:10  agent 2  got 1 0 0:3 - "more"',
-        )
-
-    def test_after_close(self):
-        """What follows behind one fault, alike, is one finding."""
-        self.tells(
-            swapped('got 1 0 0:2 - "three"', "closed 1"),
+            '   came    <stdin>:10  agent 2  got 1 0 0:3 - "more"']),
+        # What follows behind one fault, alike, is one finding.
+        (swapped('got 1 0 0:2 - "three"', "closed 1"), [
             "wrong: 1 finding",
             "1. AfterClose at end 1, line 0: 2 messages, 0:3 first, were got after the end was"
             " closed",
             "   closed    <stdin>:10  agent 2  closed 1",
             "   came      <stdin>:11  agent 2  got 1 0 0:3 notice",
-            '   and last  <stdin>:12  agent 2  got 1 0 0:2 - "three"',
-        )
+            '   and last  <stdin>:12  agent 2  got 1 0 0:2 - "three"']),
+    ]
+
+    def test_told(self):
+        for text, lines in self.TOLD:
+            with self.subTest(lines=lines):
+                found = report(text)
+                self.assertEqual(found.status, 1, found)
+                said = found.output.decode().splitlines()
+                self.assertEqual([line for line in lines if line not in said], [], said)
+        self.says(len(self.TOLD), "faults", 7)
+        self.says(sum(len(lines) for _, lines in self.TOLD), "lines", 33)
 
     def test_rows(self):
         """The first of the faults is the one that `messagehub check` has to name, row by row."""
@@ -272,18 +221,13 @@ class Faults(support.TestCase):
         self.says(36, "findings")
 
 
-class Rules(Case):
-    """What the report finds beside the faults, and what it lets pass."""
-
+class Rules(support.TestCase):
     def titles(self, text, *words):
         found = report(text, *words).output.decode().splitlines()
         return [line.partition(". ")[2] for line in found if line[:1].isdigit()]
 
     def check(self, count, rows):
-        for text, wanted in rows:
-            with self.subTest(wanted=wanted):
-                self.assertEqual(self.titles(text), wanted)
-        self.says(len(rows), "logs", count)
+        self.each(rows, "logs", lambda it: self.assertEqual(self.titles(it[0]), it[1]), count)
 
     def test_not_owner(self):
         """What an agent sent away, what arrived at it and what it adopted, end by end."""
@@ -345,9 +289,9 @@ class Rules(Case):
             self.assertEqual(report(left, "--allow-left", *words).status, wanted)
             counted = outcome_of([ACCOUNT, "--allow-left", *words], left.encode())
             self.assertEqual(counted.status, wanted, counted)
-        bad = report(left, "--script", self.write("bad", '{"agent":"boss","origin":"x"}\n'))
-        self.assertEqual((bad.output, bad.status), (b"", 2))
-        self.assertIn(b"bad: line 1: Syntax", bad.errors)
+        bad = self.write("bad", '{"agent":"boss","origin":"x"}\n')
+        words = [REPORT, *CHECKER, "--script", bad]
+        self.assert_refused(words, "bad: line 1: Syntax", text=left.encode())
         self.says(len(rows) + 3, "logs", 7)
 
     def test_before_put(self):
@@ -406,8 +350,6 @@ class Rules(Case):
 
 
 class Planted(support.TestCase):
-    """A fault of each kind, planted in logs of runs, is found."""
-
     time_limit = 240
 
     def test_runs(self):
@@ -437,20 +379,20 @@ class Planted(support.TestCase):
     def test_wrong_hubs(self):
         """What the logs of the 30 wrong hubs show is found, and nothing in those of the others."""
         names = sorted(wrong.FAULTS)
-        with multiprocessing.get_context("fork").Pool(maxtasksperchild=1) as pool:
-            found = dict(zip(names, pool.imap(planted.kinds_of_simulated, names)))
-        for name, kinds in found.items():
+        commands = [[sys.executable, "-B", TESTS / "planted.py", name] for name in names]
+        with concurrent.futures.ThreadPoolExecutor(os.cpu_count()) as pool:
+            outputs = list(pool.map(self.ran, commands))
+        for name, output in zip(names, outputs):
             with self.subTest(hub=name):
+                kinds = output.decode().split()
                 if name in planted.SHOWN:
                     self.assertIn(planted.SHOWN[name], kinds)
                 else:
-                    self.assertEqual(kinds, set())
+                    self.assertEqual(kinds, [])
         self.says(len(names), "wrong hubs", 30)
 
 
-class Inputs(Case):
-    """Folders, files, what was cut, and how it is told."""
-
+class Inputs(support.TestCase):
     ADA = 'hublog 3\nagent 0\nput 1 0 0:0 - "one"\nput 1 0 0:1 - "two"\ndeliveries\n'
     BEN = 'hublog 3\nagent 1\ngot 1 0 0:0 - "one"\n{}closed 1\ndeliveries\n'
     RIGHT, WRONG = BEN.format('got 1 0 0:1 - "two"\n'), BEN.format("")
@@ -474,8 +416,7 @@ class Inputs(Case):
                      "   closed  ben.log:4  agent 1 (ben)  closed 1"]:
             self.assertIn(line, said)
         for words in (["merged", "ada.log"], ["none"], ["merged", "--script", "none"]):
-            found = self.report(*words)
-            self.assertEqual((found.output, found.status), (b"", 2), found)
+            self.assert_refused([REPORT, *words], cwd=self.folder)
         odd = self.folder / os.fsdecode(b"b\xffr")
         odd.mkdir()
         shutil.copy(ada, odd)
@@ -544,87 +485,60 @@ class Inputs(Case):
         ]
         for text, status, said in rows:
             with self.subTest(program=text):
-                program = self.write("program", f"#!/bin/sh\n{text}\n")
-                program.chmod(0o755)
+                program = self.write("program", f"#!/bin/sh\n{text}\n", 0o755)
                 found = outcome_of([REPORT, "--program", program], CLEAN.encode())
                 self.assertEqual(found.status, status, found)
                 self.assertIn(said, found.output.decode())
                 self.assertEqual("ended with status" in found.errors.decode(), "alone" in said)
-        missing = outcome_of([REPORT, "--program", "/nowhere/at/all"], CLEAN.encode())
-        self.assertEqual((missing.output, missing.status), (b"", 2))
+        self.assert_refused([REPORT, "--program", "/nowhere/at/all"], text=CLEAN.encode())
         shutil.copytree(ROOT / "tools", self.folder / "tools")
-        alone = outcome_of([self.folder / "tools" / "report"], CLEAN.encode())
-        self.assertEqual((alone.errors, alone.status), (b"", 0))
-        self.assertIn(b"Judged by tools/report alone.\n", alone.output)
+        copy = [self.folder / "tools" / "report"]
+        self.assertIn(b"Judged by tools/report alone.\n", self.ran(copy, CLEAN.encode()))
         for name in ("embed/out/lib/libvarukoni.so", "embed/python/varukoni.py"):
-            (self.folder / name).parent.mkdir(parents=True)
             self.write(name, "def check(_): return 1, 'fault 1 0 2 Gap\\n'\n")
-        told = outcome_of([self.folder / "tools" / "report"], CLEAN.encode())
-        self.assertEqual((told.errors, told.status), (b"", 1))
         self.assertIn(b"the library says otherwise of the faults that it knows: fault 1 0 2 Gap",
-                      told.output)
+                      self.ran(copy, CLEAN.encode(), status=1))
         self.says(len(rows) + 3, "programs", 7)
 
 
 class Account(support.TestCase):
-    """What tools/account counts, and what it finds odd."""
+    WIDE = "end  line  accepted  got  left  when             notice"
+    NARROW = "end  line  accepted  got  left  when     notice"
+    COUNTED = [
+        (changed(('got 1 0 0:2 - "three"\ngot 1 0 0:3 notice\n', ""))
+         + "put 20 31 0:0 - 1\nput 20 31 0:1 - 2\ngot 20 31 0:0 - 1\n", 1, [
+             WIDE,
+             "  1     0         4    2     2  closed, line 10  left",
+             " 20    31         2    1     1  waiting          -",
+             "",
+             "end 1 line 0: 1 message got nowhere, from 0:2 (line 5) on",
+             "end 20 line 31: 1 message got nowhere, from 0:1 (line 12) on"]),
+        # What was got after the close was left when the end was closed.
+        (swapped("got 1 0 0:3 notice", "closed 1") + 'got 1 0 0:3 - "again"\n', 0, [
+            WIDE, "  1     0         4    5     1  closed, line 11  left"]),
+        # Odd numbers.
+        ("hublog 3\nagent 0\n"
+         "put 1 0 0:1 - 1\nput 1 0 0:3 - 2\nput 1 0 0:3 - 2\nput 1 0 1:0 - 3\n", 1, [
+             NARROW,
+             "  1     0         4    0     4  waiting  -",
+             "",
+             "end 1 line 0: 4 messages got nowhere, from 0:1 (line 3) on",
+             "end 1 line 0: its numbers start at 0:1 (line 3), not at 0:0",
+             "end 1 line 0: nothing is accepted between 0:1 (line 3) and 0:3 (line 4)",
+             "end 1 line 0: 0:3 (line 4) was accepted a second time at line 5"]),
+        # Agent 0 made port 5 and sends it; agent 1 adopts it once, and sends it twice.
+        ("hublog 3\nagent 0\nput 1 0 0:0 5 1\nagent 1\ngot 1 0 0:0 5 1\nadopted 5 1\n"
+         "put 1 0 0:1 5 2\nput 1 0 0:2 5 3\n", 1, [
+             NARROW,
+             "  1     0         3    1     2  waiting  -",
+             "",
+             "end 1 line 0: 2 messages got nowhere, from 0:1 (line 7) on",
+             "port 5 was sent 2 times, and not adopted between: line 3, line 8"]),
+    ]
 
-    def account(self, text, status, *lines):
-        found = outcome_of([ACCOUNT], text.encode())
-        self.assertEqual((found.errors, found.status), (b"", status))
-        self.assertEqual(found.output.decode().splitlines(), list(lines))
-        self.says(len(lines), "lines", 2)
-
-    def test_counts(self):
-        self.account(
-            changed(('got 1 0 0:2 - "three"\ngot 1 0 0:3 notice\n', ""))
-            + "put 20 31 0:0 - 1\nput 20 31 0:1 - 2\ngot 20 31 0:0 - 1\n",
-            1,
-            "end  line  accepted  got  left  when             notice",
-            "  1     0         4    2     2  closed, line 10  left",
-            " 20    31         2    1     1  waiting          -",
-            "",
-            "end 1 line 0: 1 message got nowhere, from 0:2 (line 5) on",
-            "end 20 line 31: 1 message got nowhere, from 0:1 (line 12) on",
-        )
-
-    def test_close(self):
-        """What was got after the close was left when the end was closed."""
-        self.account(
-            swapped("got 1 0 0:3 notice", "closed 1") + 'got 1 0 0:3 - "again"\n',
-            0,
-            "end  line  accepted  got  left  when             notice",
-            "  1     0         4    5     1  closed, line 11  left",
-        )
-
-    def test_odd_numbers(self):
-        self.account(
-            "hublog 3\nagent 0\n"
-            "put 1 0 0:1 - 1\nput 1 0 0:3 - 2\nput 1 0 0:3 - 2\nput 1 0 1:0 - 3\n",
-            1,
-            "end  line  accepted  got  left  when     notice",
-            "  1     0         4    0     4  waiting  -",
-            "",
-            "end 1 line 0: 4 messages got nowhere, from 0:1 (line 3) on",
-            "end 1 line 0: its numbers start at 0:1 (line 3), not at 0:0",
-            "end 1 line 0: nothing is accepted between 0:1 (line 3) and 0:3 (line 4)",
-            "end 1 line 0: 0:3 (line 4) was accepted a second time at line 5",
-        )
-
-    def test_port_sent_twice(self):
-        """Agent 0 made port 5 and sends it; agent 1 adopts it once, and sends it twice."""
-        self.account(
-            "hublog 3\nagent 0\nput 1 0 0:0 5 1\nagent 1\ngot 1 0 0:0 5 1\nadopted 5 1\n"
-            "put 1 0 0:1 5 2\nput 1 0 0:2 5 3\n",
-            1,
-            "end  line  accepted  got  left  when     notice",
-            "  1     0         3    1     2  waiting  -",
-            "",
-            "end 1 line 0: 2 messages got nowhere, from 0:1 (line 7) on",
-            "port 5 was sent 2 times, and not adopted between: line 3, line 8",
-        )
-
-    def test_bad_logs(self):
-        found = outcome_of([ACCOUNT], b"hublog 9\n")
-        self.assertEqual(found, (b"", b"tools/account: <stdin>: line 1: BadHeader\n", 2))
-        self.says(1, "log")
+    def test_counted(self):
+        for text, status, lines in self.COUNTED:
+            with self.subTest(lines=lines):
+                found = self.ran([ACCOUNT], text.encode(), status)
+                self.assertEqual(found.decode().splitlines(), lines)
+        self.says(len(self.COUNTED), "logs", 4)

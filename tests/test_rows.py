@@ -1,8 +1,6 @@
 """Runs every row of tests/rows through the program."""
 
-import pathlib
 import re
-import tempfile
 
 import row_files
 import support
@@ -10,28 +8,20 @@ from support import PROGRAM, ROOT, outcome_of
 
 
 class Rows(support.TestCase):
-    """The rows of each mode: the output byte by byte, and the status."""
+    # How many rows there are at least.
+    FLOORS = {"steps": 256, "run": 107, "check": 142}
 
-    def compare(self, mode, floor):
-        rows = support.rows(mode)
-        for row in rows:
-            with self.subTest(row=row.name):
-                self.assert_outcome(outcome_of([PROGRAM, mode], row.text), row.wanted())
-        self.says(len(rows), "rows", floor)
+    def compare(self, mode):
+        self.each(support.rows(mode), "rows", self.compare_row, self.FLOORS[mode])
 
-    def test_steps(self):
-        self.compare("steps", 256)
+    def compare_row(self, row):
+        self.assert_outcome(outcome_of([PROGRAM, row.mode], row.text), row.wanted())
 
-    def test_run(self):
-        self.compare("run", 107)
 
-    def test_check(self):
-        self.compare("check", 142)
+support.add_tests(Rows, Rows.compare, {mode: mode for mode in Rows.FLOORS})
 
 
 class Files(support.TestCase):
-    """The files of rows and their reader. No program is run."""
-
     def test_names_stand_once(self):
         names = [(mode, row.name) for mode in row_files.FOLDERS for row in support.rows(mode)]
         self.assertEqual(len(names), len(set(names)))
@@ -49,10 +39,7 @@ class Files(support.TestCase):
             (["agent -", "take 0{no LF}"], b"agent -\ntake 0"),
             ([], b""),
         ]
-        for lines, text in texts:
-            with self.subTest(lines=lines):
-                self.assertEqual(row_files.made_by(lines), text)
-        self.says(len(texts), "texts")
+        self.each(texts, "texts", lambda it: self.assertEqual(row_files.made_by(it[0]), it[1]))
 
     def test_tables(self):
         """Each line of a table stands behind the common front, once for each choice."""
@@ -71,15 +58,9 @@ class Files(support.TestCase):
     def test_example_of_the_page(self):
         """The rows that CONTRIBUTING.md shows are rows, and right."""
         page = (ROOT / "CONTRIBUTING.md").read_text(encoding="utf-8")
-        with tempfile.TemporaryDirectory() as folder:
-            path = pathlib.Path(folder) / "steps" / "page.rows"
-            path.parent.mkdir()
-            path.write_text(re.search(r"```\n(=== .*?)```", page, re.DOTALL)[1], encoding="utf-8")
-            found = row_files.read(path)
-        for row in found:
-            with self.subTest(row=row.name):
-                self.assert_outcome(outcome_of([PROGRAM, row.mode], row.text), row.wanted())
-        self.says(len(found), "rows", 3)
+        text = re.search(r"```\n(=== .*?)```", page, re.DOTALL)[1]
+        found = row_files.read(self.write("steps/page.rows", text))
+        self.each(found, "rows", lambda row: Rows.compare_row(self, row), 3)
 
     def test_bad_files_are_refused(self):
         bad = [

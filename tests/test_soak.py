@@ -7,7 +7,6 @@ import shutil
 import signal
 import subprocess
 import tempfile
-import time
 
 import support
 from support import PROGRAM, ROOT, TESTS, outcome_of
@@ -24,8 +23,6 @@ def counts_of(output):
 
 
 class Soak(support.TestCase):
-    """Scripts made from seeds, on as many processors as there are."""
-
     time_limit = 300
 
     def test_program(self):
@@ -47,8 +44,6 @@ class Soak(support.TestCase):
 
 
 class Faults(support.TestCase):
-    """The soak finds each planted fault, and nothing in runs without one."""
-
     time_limit = 300
 
     def test_faults(self):
@@ -64,12 +59,7 @@ class Faults(support.TestCase):
 
 
 class Failing(support.TestCase):
-    """What the soak leaves where something fails."""
-
     def setUp(self):
-        folder = tempfile.TemporaryDirectory(prefix="a soak ")
-        self.addCleanup(folder.cleanup)
-        self.folder = pathlib.Path(folder.name)
         self.kept_in = self.folder / "kept"
         self.kept_in.mkdir()
 
@@ -80,7 +70,6 @@ class Failing(support.TestCase):
         return sorted(path.name for path in self.kept_in.iterdir())
 
     def broken_copy(self):
-        """The folder tests/ of a copy, in which the examination itself crashes."""
         copy = self.folder / "tests"
         shutil.copytree(TESTS, copy, ignore=shutil.ignore_patterns("rows"))
         shutil.copytree(ROOT / "tools", self.folder / "tools")
@@ -128,9 +117,8 @@ class Failing(support.TestCase):
 
     def test_interrupt_prints_the_report(self):
         """The first run never ends, and the signal comes while it waits."""
-        endless = self.folder / "endless"
-        endless.write_text("#!/bin/sh\nexec sleep 60\n", "utf-8")
-        endless.chmod(0o755)
+        mark = f"#!/bin/sh\ntouch '{self.folder}/begun'\nexec sleep 60\n"
+        endless = self.write("endless", mark, 0o755)
         signals = [signal.SIGINT, signal.SIGTERM]
         for number in signals:
             with self.subTest(signal=number):
@@ -141,28 +129,7 @@ class Failing(support.TestCase):
 
     def interrupt(self, number, words):
         """The status, output and errors of a soak that gets a signal in its first run."""
-        with subprocess.Popen(
-            words, stdout=subprocess.PIPE, stderr=subprocess.PIPE,
-            # A shell may have begun the tests so that they ignore Ctrl-C.
-            preexec_fn=lambda: signal.signal(signal.SIGINT, signal.SIG_DFL),
-        ) as process:
-            try:
-                wait_for_child(process.pid)
-                process.send_signal(number)
-                return process.wait(20), *process.communicate()
-            finally:
-                process.kill()
-
-
-def wait_for_child(number, name="sleep"):
-    """Returns once the process has begun another one, and that runs the program of this name."""
-    children = pathlib.Path(f"/proc/{number}/task/{number}/children")
-    for _ in range(1_000):
-        names = [
-            pathlib.Path(f"/proc/{child}/comm").read_text("utf-8").strip()
-            for child in children.read_text("utf-8").split()
-        ]
-        if name in names:
-            return
-        time.sleep(0.05)
-    raise AssertionError("it has begun no run")
+        (self.folder / "begun").unlink(missing_ok=True)
+        with support.begun(words, (self.folder / "begun").exists) as process:
+            process.send_signal(number)
+            return process.wait(20), *process.communicate()

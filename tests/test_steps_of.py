@@ -2,38 +2,29 @@
 
 The logs are those of the program's runs, of simulated ones, and of programs on Node. What a step
 file does is told by the built program where there is one, and else by tools/machine.py, which is
-compared with the rows of the program.
+compared with the rows of the program by tests/test_why.py.
 """
 
-import os
-import pathlib
 import random
 import re
-import shutil
 import sys
-import tempfile
-import unittest
 
 import support
-from support import PROGRAM, ROOT, TESTS, outcome_of
+from support import IS_BUILT, MERGE, PROGRAM, ROOT, SIMULATE, TESTS, outcome_of
 
 sys.path.insert(0, str(TESTS / "soak.d"))
 
 import changes
-import ends
 import generator
 import hublog
 import machine
 
 STEPS_OF = ROOT / "tools" / "steps-of"
-MERGE = ROOT / "record" / "merge"
 SHOP = TESTS / "record" / "shop.mjs"
-SIMULATE = TESTS / "simulate"
 SCRIPTS = [ROOT / "examples" / f"{name}.script" for name in ("two_windows", "service_worker")]
 SEEDS = range(14)
 MOST_ENTRIES = 700
 GOT = re.compile(r"(?:got|notice) (\d+:\d+) from (\d+)(?: with ([\d,]+))?(?: (.+))?")
-IS_BUILT = os.access(PROGRAM, os.X_OK)
 
 # Each of two agents closes its port: both notices were accepted before either port was closed.
 CROSSED = """hublog 3
@@ -89,12 +80,7 @@ def simulated(script, seed):
     return found.output if found.status == 0 else None
 
 
-def run_by_program(script, _seed):
-    return outcome_of([PROGRAM, "run"], script).output
-
-
 def outcomes(steps):
-    """The outcome line of each step line."""
     if IS_BUILT:
         return outcome_of([PROGRAM, "steps"], steps).output.decode().splitlines()
     hub = machine.Machine()
@@ -113,7 +99,6 @@ def gots(steps):
 
 
 def deliveries(steps):
-    """The same in the form that follows the logs of a run."""
     return [
         f"end {end} line {line} {' '.join(name for name, _, _ in it)}"
         for (end, line), it in gots(steps).items()
@@ -121,12 +106,9 @@ def deliveries(steps):
 
 
 class Case(support.TestCase):
-    """A test with a file for a script."""
-
-    def setUp(self):
-        folder = tempfile.TemporaryDirectory(prefix="a folder ")
-        self.addCleanup(folder.cleanup)
-        self.path = pathlib.Path(folder.name) / "run.script"
+    @property
+    def path(self):
+        return self.folder / "run.script"
 
     def runs(self, run=simulated):
         """Scripts, of which self.path has the one at a time, and the logs of a run of it."""
@@ -146,25 +128,21 @@ class Case(support.TestCase):
 
 
 class Found(Case):
-    """Logs that have a step file, which delivers what they say."""
-
-    def test_script(self):
+    def check_runs(self, run):
+        """Each run has a step file, with its script and without."""
         count = 0
-        for logs in self.runs():
-            with self.subTest(run=count):
-                self.check_steps(logs, "--script", self.path)
-                count += 1
-        self.says(count, "runs", 12)
-
-    def test_program(self):
-        """Each run of the program has a step file, with its script and without."""
-        count = 0
-        for logs in self.runs(run_by_program):
+        for logs in self.runs(run):
             with self.subTest(run=count):
                 self.check_steps(logs, "--script", self.path)
                 self.check_steps(logs)
                 count += 1
         self.says(count, "runs", 12)
+
+    def test_simulated(self):
+        self.check_runs(simulated)
+
+    def test_program(self):
+        self.check_runs(lambda script, _seed: self.ran([PROGRAM, "run"], script))
 
     def test_maker_without_a_log(self):
         """A queue that comes from an agent that logs nothing is handed on by it."""
@@ -172,14 +150,6 @@ class Found(Case):
         self.assertEqual(found.output.splitlines()[-3:], [b"client 1", b"hand 0 0", b"adopt 0 0"])
         self.assertEqual(outcomes(found.output)[-2:], ["handed", "adopted 1"])
         self.says(1, "log")
-
-    def test_no_script(self):
-        count = 0
-        for logs in self.runs():
-            with self.subTest(run=count):
-                self.check_steps(logs)
-                count += 1
-        self.says(count, "runs", 12)
 
     def test_poster_inside(self):
         """It enters before the port is adopted, and pushes behind that."""
@@ -203,13 +173,12 @@ class Found(Case):
         self.assertEqual(sorted(lines), sorted(wanted))
         self.says(len(lines), "deliveries")
 
-    @unittest.skipIf(shutil.which("node") is None, "node, which is not on the PATH")
+    @support.needs("node")
     def test_node(self):
         """A recorded program on Node's own channels: ports and bodies are those of its logs."""
-        folder = self.path.parent / "logs"
-        ran = outcome_of(["node", "--no-warnings", SHOP, folder])
-        self.assertEqual((ran.errors, ran.status), (b"", 0))
-        logs = outcome_of([MERGE, folder]).output
+        folder = self.folder / "logs"
+        self.ran(["node", "--no-warnings", SHOP, folder])
+        logs = self.ran([MERGE, folder])
         found = steps_of(logs)
         self.assertEqual(found.status, 0, found.output)
         wanted = {
@@ -229,8 +198,6 @@ class Found(Case):
 
 
 class NotFound(Case):
-    """Logs that have no step file."""
-
     def test_changed(self):
         draw, count = random.Random(0), 0
         for logs in self.runs():
@@ -273,37 +240,6 @@ class NotFound(Case):
 
     def test_refusals(self):
         self.path.write_bytes(b'{"agent":"robot","origin":"https://a.example"}\n')
-        for words, text in [
-            (["--states", "x"], b"hublog 3\n"), (["/nowhere/at/all"], b""), ([], b"hublog 9\n"),
-            (["--script", self.path], b"hublog 3\n"),
-        ]:
-            found = steps_of(text, *words)
-            self.assertEqual((found.output, found.status), (b"", 2), words)
-            self.assertNotIn(b"Traceback", found.errors)
-        self.says(4, "calls")
-
-
-class Machine(support.TestCase):
-    """The machine of tools/machine.py gives the outcomes of the rows."""
-
-    # Bodies that aren't compact are nothing that logs have.
-    LEFT_OUT = {"body-greatest-and-sorted", "bodies-read"}
-
-    def test_rows(self):
-        count = 0
-        for row in support.rows("steps"):
-            lines = row.text.decode(errors="replace").splitlines()
-            name = row.name.partition("/")[0]
-            if row.status or name in self.LEFT_OUT or not all(map(self.is_known, lines)):
-                continue
-            with self.subTest(row=row.name):
-                hub = machine.Machine()
-                output = "".join(f"{hub.do(line)}\n" for line in lines)
-                self.assertIsNone(support.first_difference(output.encode(), row.output))
-                count += 1
-        self.says(count, "rows", 45)
-
-    @staticmethod
-    def is_known(line):
-        """What an event comes to is told by no log."""
-        return line.split(" ")[0].removeprefix("!") in machine.ARITY.keys() - {"event"}
+        words = [STEPS_OF, "--script", self.path]
+        self.assert_refused(words, "run.script: line 1: Syntax\n", text=b"hublog 3\n")
+        self.says(1, "call")

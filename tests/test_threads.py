@@ -32,14 +32,7 @@ MOST_DELAY = 2
 MOST_BUSY = 0.1
 
 
-class Refused(support.TestCase):
-    """A thread that can't be made ends the run."""
-
-    @classmethod
-    def setUpClass(cls):
-        cls.refuser = support.Refuser()
-        cls.addClassCleanup(cls.refuser.close)
-
+class Refused(support.RefusingCase):
     def test_threads(self):
         row = support.row("run", "ring-of-sixteen")
         refused = 0
@@ -56,35 +49,19 @@ class Refused(support.TestCase):
         self.says(refused, "threads", 16)
 
 
-def heed_signals():
-    """Undoes what a shell does to its jobs in the background, which ignore SIGINT."""
-    signal.signal(signal.SIGINT, signal.SIG_DFL)
-
-
 class Waiting(support.TestCase):
-    """Whoever sees that a run waits can end it, and it costs nothing meanwhile."""
-
     @contextlib.contextmanager
     def waiting(self):
-        """A run whose agents all wait."""
-        with subprocess.Popen(
-            [PROGRAM, "run"], stdin=subprocess.PIPE, stdout=subprocess.PIPE,
-            stderr=subprocess.PIPE, preexec_fn=heed_signals,
-        ) as run:
-            try:
-                run.stdin.write(WAITING)
-                run.stdin.close()
-                run.stdin = None
-                tasks, limit = Path(f"/proc/{run.pid}/task"), time.monotonic() + SECONDS
-                while len(list(tasks.iterdir())) < THREADS and time.monotonic() < limit:
-                    time.sleep(0.01)
-                self.assertGreaterEqual(len(list(tasks.iterdir())), THREADS)
-                # A run that would end by itself would have ended by now.
-                time.sleep(0.5)
-                self.assertIsNone(run.poll())
-                yield run
-            finally:
-                run.kill()
+        with support.begun([PROGRAM, "run"], lambda: True, stdin=subprocess.PIPE) as run:
+            run.stdin.write(WAITING)
+            run.stdin.close()
+            run.stdin = None
+            tasks = Path(f"/proc/{run.pid}/task")
+            support.wait_until(lambda: len(list(tasks.iterdir())) >= THREADS, SECONDS)
+            # A run that would end by itself would have ended by now.
+            time.sleep(0.5)
+            self.assertIsNone(run.poll())
+            yield run
 
     def end(self, number):
         """Ends a run that waits, and tells what it printed, its status and how long it took."""

@@ -1,4 +1,4 @@
-"""Tests of tools/edits, tools/costs and tools/build that need no toolchain."""
+"""Tests of tools/edits, tools/clauses, tools/costs and tools/build that need no toolchain."""
 
 import importlib.machinery
 import importlib.util
@@ -8,15 +8,15 @@ import re
 import sys
 import tempfile
 import time
+from unittest import mock
 
 import support
-from support import ROOT, outcome_of
+from support import ROOT
 
 import buildplan
 
 
 def tool(name):
-    """A script of tools/ as a module."""
     loader = importlib.machinery.SourceFileLoader(f"tool_{name}", str(ROOT / "tools" / name))
     module = importlib.util.module_from_spec(importlib.util.spec_from_loader(loader.name, loader))
     sys.modules[loader.name] = module
@@ -43,8 +43,6 @@ ADVICE = "./proofs/Word.antt:11:5: note: large solution\n"
 
 
 class Edits(support.TestCase):
-    """tools/edits tells an edit that shows something from one that doesn't."""
-
     def test_judged(self):
         judged = tool("edits").judged
         rows = [
@@ -64,32 +62,45 @@ class Edits(support.TestCase):
         self.says(len(rows), "outputs", 8)
 
 
+class Sources(support.TestCase):
+    """tools/edits applies the must-fail edits, and tools/clauses looks that each public clause has
+    one, or a reason to have none. Neither proves anything here."""
+
+    def passed(self, name, word):
+        """How many passed, which are all."""
+        output = self.ran([ROOT / "tools" / name, word], seconds=self.time_limit).decode()
+        told = re.fullmatch(r"(\d+) passed, 0 failed", output.splitlines()[-1])
+        self.assertTrue(told, output)
+        return int(told[1])
+
+    def test_edits(self):
+        self.says(self.passed("edits", "--apply"), "edits", 100)
+
+    def test_clauses(self):
+        self.says(self.passed("clauses", "--check"), "clauses", 450)
+
+
 class Costs(support.TestCase):
-    """tools/costs writes down what a run cost, and keeps the status."""
+    def texts(self, command, status):
+        """What is printed, and what is written down."""
+        report = self.folder / "report"
+        words = [ROOT / "tools" / "costs", report, "bash", "-c", command]
+        return self.ran(words, status=status), report.read_bytes()
 
     def test_costs(self):
-        with tempfile.NamedTemporaryFile() as report:
-            found = outcome_of([ROOT / "tools" / "costs", report.name, "sh", "-c", "exit 3"])
-            self.assertEqual((found.errors, found.status), (b"", 3))
-            for text in (found.output, report.read()):
-                self.assertRegex(text, rb"^gate: 0 processor minutes in 0 min; ")
+        for text in self.texts("exit 3", 3):
+            self.assertRegex(text, rb"^gate: 0 processor minutes in 0 min; ")
         self.says(1, "run")
 
     def test_shares(self):
         """What a prover that the command started has cost stands under its crate."""
         prover = "exec -a rattle python3 -c 'import time; time.sleep(2)' --crate-name lines"
-        with tempfile.NamedTemporaryFile() as report:
-            words = ["bash", "-c", f"({prover}); exit 0"]
-            found = outcome_of([ROOT / "tools" / "costs", report.name, *words])
-            self.assertEqual((found.errors, found.status), (b"", 0))
-            for text in (found.output, report.read()):
-                self.assertIn(b"\n  lines: 0.0 (proof 0.0, tests 0.0, edits 0.0)\n", text)
+        for text in self.texts(f"({prover}); exit 0", 0):
+            self.assertIn(b"\n  lines: 0.0 (proof 0.0, tests 0.0, edits 0.0)\n", text)
         self.says(1, "run")
 
 
 class Build(support.TestCase):
-    """tools/build knows which crates the program is made of."""
-
     def test_order(self):
         build = tool("build")
         crates = build.libraries()
@@ -175,24 +186,19 @@ class Build(support.TestCase):
 
     def test_silent(self):
         """A crate that nothing was told of for long is told of, with what rt says until then."""
-        build = tool("build")
-        with tempfile.TemporaryDirectory() as folder:
-            tempfile.tempdir = folder
-            try:
-                work = build.Build(build.libraries(), 4)
-            finally:
-                tempfile.tempdir = None
-            said = []
-            build.say = said.append
-            for name, text in [("hub_core", ""), ("hub_bell", "fn a: proved\nfn b: proved\n")]:
-                (work.logs / f"{name}.log").write_text(text, encoding="utf-8")
-                work.at_work[name] = name, work.own, work.first
-                work.told[name] = work.first
-            work.tell_silent()
-            self.assertEqual(said, [])
-            work.told = {name: time.monotonic() - 151 for name in work.told}
-            work.tell_silent()
-            work.tell_silent()
+        build, said = tool("build"), []
+        with mock.patch.object(tempfile, "tempdir", str(self.folder)):
+            work = build.Build(build.libraries(), 4)
+        build.say = said.append
+        for name, text in [("hub_core", ""), ("hub_bell", "fn a: proved\nfn b: proved\n")]:
+            self.write(work.logs / f"{name}.log", text)
+            work.at_work[name] = name, work.own, work.first
+            work.told[name] = work.first
+        work.tell_silent()
+        self.assertEqual(said, [])
+        work.told = {name: time.monotonic() - 151 for name in work.told}
+        work.tell_silent()
+        work.tell_silent()
         head = ("messagehub: hub_bell: 2 functions proved; hub_core: at work; rt tells how many "
                 "functions are proved only at the end, about ")
         self.assertEqual(len(said), 1)

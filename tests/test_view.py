@@ -9,16 +9,11 @@ import fcntl
 import html.parser
 import json
 import os
-import pathlib
 import re
-import signal
 import struct
 import subprocess
-import sys
-import tempfile
 import termios
 import time
-import unittest
 
 import browser
 import support
@@ -56,9 +51,6 @@ COUNTED = """(async () => {
   }
   return counts;
 })()"""
-needs_chromium = unittest.skipIf(
-    browser.CHROMIUM is None, "chromium, which is not on the PATH"
-)
 
 
 def made(text, *words):
@@ -124,17 +116,13 @@ def attack():
     return f"hublog 3\nagent 0\n{puts}agent 1\ngot 1 0 0:0 - {body}\n"
 
 
-def attack_script(folder):
-    path = pathlib.Path(folder) / "a script"
+def attack_script(case):
     agent = {"agent": "window", "origin": "https://a.example"}
     lines = [agent, {"channel": [ATTACK, "p"], "at": 0}]
-    path.write_text("".join(f"{json.dumps(line)}\n" for line in lines), "utf-8")
-    return path
+    return case.write("a script", "".join(f"{json.dumps(line)}\n" for line in lines))
 
 
 class Pages(support.TestCase):
-    """What stands in a page."""
-
     def test_deliveries(self):
         """One element for each delivery, also where puts are missing or doubled."""
         texts = [path.read_bytes() for path in [*RUNS, FAULTY]]
@@ -202,8 +190,7 @@ class Pages(support.TestCase):
 
     def test_escaping(self):
         """Whatever stands in a body or in a name is text, and no URL stands in the page."""
-        with tempfile.TemporaryDirectory(prefix="a folder ") as folder:
-            page = made(attack(), "--script", attack_script(folder)).output
+        page = made(attack(), "--script", attack_script(self)).output
         reader = Reader(page)
         self.assertEqual([it for it, _ in reader.elements if it in ("img", "b")], ["b"] * 4)
         self.assertEqual([it for it, _ in reader.elements if it == "script"], ["script"] * 2)
@@ -221,54 +208,19 @@ class Pages(support.TestCase):
         """A file and standard input give the same page, also where the input comes in parts."""
         text = RUNS[0].read_bytes()
         wanted = made(text)
-        with tempfile.TemporaryDirectory(prefix="a folder ") as folder:
-            path = pathlib.Path(folder) / "the logs"
-            path.write_bytes(text)
-            named = Reader(made(b"", path).output)
-            self.assertIn("the logs: 3 agents, 7 deliveries", [text for _, text in named.texts])
-            self.assertEqual(named.data()["entries"], Reader(wanted.output).data()["entries"])
+        named = Reader(made(b"", self.write("the logs", text.decode())).output)
+        self.assertIn("the logs: 3 agents, 7 deliveries", [text for _, text in named.texts])
+        self.assertEqual(named.data()["entries"], Reader(wanted.output).data()["entries"])
         self.assert_outcome(made_in_parts(text), wanted)
         self.says(2, "inputs")
 
-    def test_statuses(self):
-        bad = [
-            ("hublog 9\n", [], b"tools/view: <stdin>: line 1: BadHeader\n"),
-            ("hublog 3\nagent 0\ngot 0 0 0:0 - 1.5\n", [],
-             b"tools/view: <stdin>: line 3: BadLine\n"),
-        ]
-        for text, words, errors in bad:
-            with self.subTest(text=text):
-                self.assertEqual(made(text, *words), (b"", errors, 2))
-        others = [
-            ["a", "b"], ["/nowhere/at/all"], ["--script"], ["--script", "/nowhere/at/all"],
-            ["--script", ROOT / "README.md"],
-        ]
-        for words in others:
-            with self.subTest(words=words):
-                done = made("", *words)
-                self.assertEqual((done.output, done.status), (b"", 2))
-                self.assertTrue(done.errors.startswith(b"usage: tools/view "), done.errors)
-                self.assertNotIn(b"Traceback", done.errors)
-        full = outcome_of(["sh", "-c", '"$0" > /dev/full', VIEW])
-        self.assertEqual((full.status, full.errors.count(b"\n")), (2, 1), full.errors)
-        reader, writer = os.pipe()
-        os.close(reader)
-        closed = subprocess.run([VIEW, RUNS[0]], stdout=writer, stderr=subprocess.PIPE)
-        os.close(writer)
-        self.assertEqual((closed.returncode, closed.stderr), (-signal.SIGPIPE, b""))
-        self.says(len(bad) + len(others) + 2, "calls")
-
 
 def recorded(folder, bug):
-    """The logs of examples/relay.py with a bug."""
-    logs = pathlib.Path(folder) / bug
-    outcome_of([ROOT / "examples" / "relay.py", "--bug", bug, logs])
-    return logs
+    outcome_of([ROOT / "examples" / "relay.py", "--bug", bug, folder / bug])
+    return folder / bug
 
 
 class Bugs(support.TestCase):
-    """What the page of a wrong hub shows: two agents, and a port that is sent."""
-
     # By bug: the entry of the finding, the wrong ones, and what is said of the order.
     WANTED = {
         "lost": ('put3"one"', ["put", "put", "put"], "one that could be"),
@@ -276,29 +228,30 @@ class Bugs(support.TestCase):
         "order": ('got3"two"', ["got"], "a guess"),
     }
 
+    def read(self, bug):
+        return Reader(self.ran([VIEW, recorded(self.folder, bug)]))
+
     def test_bugs(self):
-        with tempfile.TemporaryDirectory(prefix="a folder ") as folder:
-            for bug, (entry, wrong, order) in self.WANTED.items():
-                with self.subTest(bug=bug):
-                    reader = Reader(outcome_of([VIEW, recorded(folder, bug)]).output)
-                    data = reader.data()
-                    self.assertEqual(data["agents"], ["agent 0, ada", "agent 1, ben"])
-                    finding, = data["findings"]
-                    word, _, end, *_, body, _ = data["entries"][finding["row"]]
-                    shown = f'{["put", "got"][word]}{end}{data["bodies"][body]}'
-                    self.assertEqual(shown, entry)
-                    styles = [it["class"].split()[1] for it in reader.of_class("wrong")
-                              if "entry" in it["class"]]
-                    self.assertEqual(styles, wrong)
-                    texts = " ".join(text for _, text in reader.texts)
-                    self.assertIn(f"{bug}: 2 agents, ", texts)
-                    self.assertIn(f"Order between agents: {order}; logs have no times.", texts)
+        for bug, (entry, wrong, order) in self.WANTED.items():
+            with self.subTest(bug=bug):
+                reader = self.read(bug)
+                data = reader.data()
+                self.assertEqual(data["agents"], ["agent 0, ada", "agent 1, ben"])
+                finding, = data["findings"]
+                word, _, end, *_, body, _ = data["entries"][finding["row"]]
+                shown = f'{["put", "got"][word]}{end}{data["bodies"][body]}'
+                self.assertEqual(shown, entry)
+                styles = [it["class"].split()[1] for it in reader.of_class("wrong")
+                          if "entry" in it["class"]]
+                self.assertEqual(styles, wrong)
+                texts = " ".join(text for _, text in reader.texts)
+                self.assertIn(f"{bug}: 2 agents, ", texts)
+                self.assertIn(f"Order between agents: {order}; logs have no times.", texts)
         self.says(len(self.WANTED), "bugs", 3)
 
     def test_lost_before_its_move(self):
         """What was lost stands above the adoption behind which it is missing, not below."""
-        with tempfile.TemporaryDirectory(prefix="a folder ") as folder:
-            data = Reader(outcome_of([VIEW, recorded(folder, "lost")]).output).data()
+        data = self.read("lost").data()
         words = [entry[0] for entry in data["entries"]]
         self.assertEqual(words[:3], [PUT] * 3)
         self.assertGreater(words.index(ADOPTED), 3)
@@ -322,8 +275,7 @@ class Bugs(support.TestCase):
 
     def test_channels(self):
         """The two ports of a channel have one colour, and other ends have others."""
-        with tempfile.TemporaryDirectory(prefix="a folder ") as folder:
-            reader = Reader(outcome_of([VIEW, recorded(folder, "order")]).output)
+        reader = self.read("order")
         ends = [entry[2] for entry in reader.data()["entries"]]
         colours = [re.search(r"\bc\d", it["class"])[0] for it in reader.of_class("entry")]
         by_end = {end: {c for e, c in zip(ends, colours) if e == end} for end in set(ends)}
@@ -332,13 +284,10 @@ class Bugs(support.TestCase):
         self.says(len(colours), "entries", 13)
 
 
-@needs_chromium
+@support.needs("chromium")
 class Browsed(support.TestCase):
-    """Pages in a browser. Each test has a browser of its own."""
-
     def setUp(self):
-        folder = self.enterContext(tempfile.TemporaryDirectory())
-        self.path = pathlib.Path(folder) / "run.html"
+        self.path = self.folder / "run.html"
         self.browser = self.enterContext(browser.Browser())
 
     def open(self, text, *words, place="", **settings):
@@ -498,8 +447,7 @@ class Browsed(support.TestCase):
 
     def test_summary(self):
         """Where no entry is chosen the panel has what was found, and what each end got and left."""
-        logs = recorded(self.path.parent, "lost")
-        self.path.write_bytes(outcome_of([VIEW, logs]).output)
+        self.path.write_bytes(self.ran([VIEW, recorded(self.folder, "lost")]))
         page = self.browser.open(self.path)
         self.assertEqual(self.chosen(page), "1")
         self.assertIn("Lost at end 3", page.value("document.getElementById('panel').textContent"))
@@ -534,8 +482,7 @@ class Browsed(support.TestCase):
 
     def test_attack(self):
         """Nothing that stands in logs or a script is run, nor shown as anything but text."""
-        script = attack_script(self.path.parent)
-        page = self.open(attack(), "--script", script, place="#2")
+        page = self.open(attack(), "--script", attack_script(self), place="#2")
         self.assertEqual(page.value("document.images.length"), 0)
         self.assertIn("onerror=alert(1)", page.value("panel.querySelector('pre').textContent"))
         self.assert_quiet(page)

@@ -1,17 +1,10 @@
-// The random actions of an agent, on Node and in browsers. `hub` is what `record` gave.
+// The random actions of an agent, on Node and in browsers. `hub` is what `record` gave. The schedule
+// of the threads isn't drawn.
+import { picked, randomOf } from './drawing.mjs';
 
 const ACTIONS = 60;
 const MOST_MEMBERS = 4;
 const NAMES = ['news', 'other'];
-
-// A small generator with a seed. The schedule of the threads isn't drawn from it.
-function randomOf(start) {
-  let state = start >>> 0;
-  return (below) => {
-    state = (Math.imul(state, 1664525) + 1013904223) >>> 0;
-    return Math.floor((state / 2 ** 32) * below);
-  };
-}
 
 function cycle() {
   const it = {};
@@ -44,7 +37,7 @@ export class Actor {
   }
 
   pick(items) {
-    return items[this.random(items.length)];
+    return picked(this.random, items);
   }
 
   take(message) {

@@ -49,7 +49,6 @@ class Coverage:
             self.counts["orders seen in a wait"] += got < sum(it.count for it in actions)
 
     def report(self):
-        """Lines of text."""
         self.counts["messages discarded"] = (
             self.counts["messages accepted"] - self.counts["messages delivered"]
         )

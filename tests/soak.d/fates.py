@@ -29,8 +29,6 @@ MOST_HOPS = 4
 
 
 class Fates:
-    """The logs of a run beside its script."""
-
     def __init__(self, script, logs):
         self.script, self.logs = script, logs
         self.complaints = []
@@ -45,9 +43,7 @@ class Fates:
         self.asked = [
             [0, *itertools.accumulate(it.count for it in actions)] for actions in script.actions
         ]
-        self.ordered = {
-            it.to for actions in script.actions for it in actions if it.word == "order"
-        }
+        self.ordered = {it.to for actions in script.actions for it in actions if it.word == "order"}
         self.adoptions = collections.defaultdict(list)
         self.closed = set()
         # Of each end, the messages that name it in their lists, as they were put and got.
@@ -58,16 +54,6 @@ class Fates:
 
     def has_action(self, agent, word):
         return any(it.word == word for it in self.script.actions[agent])
-
-    def targets(self, action):
-        """The ends at which an action puts its message."""
-        if action.word == "send":
-            return {action.to}
-        source = self.script.declared_of(action.end)
-        if action.word == "post":
-            # A post whose list holds its own target is doomed, and puts nothing.
-            return {source.peer.end}.difference(action.transfer)
-        return {it.end for it in self.script.declared if it.key == source.key and it is not source}
 
     # What an agent put, beside its actions
 
@@ -83,7 +69,7 @@ class Fates:
                 self.complain(f"agent {log.agent} put {body}, which it hasn't sent")
                 continue
             ends = ends if place == last else set()
-            if place < last or entry.end in ends or entry.end not in self.targets(action):
+            if place < last or entry.end in ends or entry.end not in self.script.targets(action):
                 self.complain(f"agent {log.agent} put {body} out of order or at another end")
             if ports != action.transfer:
                 self.complain(f"agent {log.agent} put {body} with other ports")

@@ -107,7 +107,6 @@ class Generator:
                 return
 
     def is_reserved(self, port):
-        """Whether it is one of the ports that are kept for `ask_for_order`."""
         return port.name.startswith(("signal", "other"))
 
     def ports_for(self, agent, source, most):
@@ -217,7 +216,6 @@ class Generator:
         self.wait(agent)
 
     def post_towards(self, port):
-        """Posts that come out at the port."""
         holder = next((it for it in self.plan.agents if port.peer in it.held), None)
         for _ in range(self.pick([0, 1, 3, 3, 30]) if holder else 0):
             self.plan.post(holder, port.peer, [], self.body())
@@ -369,7 +367,6 @@ class Generator:
 
 
 def make(seed):
-    """The bytes of a script."""
     generator = Generator(seed)
     generator.declare()
     generator.begin()

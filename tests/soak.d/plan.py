@@ -111,11 +111,9 @@ class Agent:
         self.waits_since, self.waits = 0, []
 
     def place(self):
-        """How many actions it has."""
         return self.clock[self.number]
 
     def is_sure(self):
-        """Whether what it does next is sure."""
         return self.sure_count is None
 
     def ports(self):
@@ -129,9 +127,7 @@ class Plan:
     """The script so far, as lines, and the state of its run."""
 
     def __init__(self, kinds, origins):
-        self.agents = [
-            Agent(at, *pair, len(kinds)) for at, pair in enumerate(zip(kinds, origins))
-        ]
+        self.agents = [Agent(at, *pair, len(kinds)) for at, pair in enumerate(zip(kinds, origins))]
         self.lines = [{"agent": agent.kind, "origin": agent.origin} for agent in self.agents]
         self.members = []
 
@@ -202,7 +198,6 @@ class Plan:
         return other.sure_count is not None and agent.clock[other.number] >= other.sure_count
 
     def may_send(self, port):
-        """Whether the port may be sent once more."""
         return port.moves_often or port.moves < MOST_MOVES
 
     # Actions. Each adds one line.
@@ -235,7 +230,6 @@ class Plan:
             port.moves += 1
 
     def release(self, agent, end, state):
-        """The agent holds the end no longer."""
         agent.held.remove(end)
         if end.state == "with":
             end.state = state if agent.is_sure() else "unknown"

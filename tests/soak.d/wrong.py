@@ -3,314 +3,275 @@
 from simulator import agent, hub, simulation
 
 Agent, End, Hub, Posted = agent.Agent, hub.End, hub.Hub, hub.Posted
+# By name, what makes the fault.
+FAULTS = {}
 
 
-def replace(holder, name):
-    """Puts a function in the place of one of the simulator. It gets the one replaced first."""
+def fault(holder, name, of=None):
+    """Puts a function in the place of one of the simulator. It gets the one replaced first.
+
+    The fault has the name of the function, or the names `of` which it is a part.
+    """
 
     def with_wrong(wrong):
-        right = getattr(holder, name)
-        setattr(holder, name, lambda *words: wrong(right, *words))
+        def make():
+            right = getattr(holder, name)
+            setattr(holder, name, lambda *words: wrong(right, *words))
+
+        for its in of or [wrong.__name__]:
+            FAULTS.setdefault(its, []).append(make)
+        return wrong
 
     return with_wrong
 
 
-def after_push(change):
+def plant(name):
+    """Makes a fault, which stays for good."""
+    for make in FAULTS[name]:
+        make()
+
+
+def after_push(change, right, self, poster, queue, body, ports, is_notice):
     """Changes a queue after some pushes, but not after those of messages with ports."""
-
-    @replace(Hub, "push")
-    def push(right, self, poster, queue, body, ports, is_notice):
-        posted = right(self, poster, queue, body, ports, is_notice)
-        if posted.number % 5 == 3 and not ports:
-            change(queue.waiting)
-        return posted
+    posted = right(self, poster, queue, body, ports, is_notice)
+    if posted.number % 5 == 3 and not ports:
+        change(queue.waiting)
+    return posted
 
 
-def lose_message():
+@fault(Hub, "push")
+def lose_message(*words):
     """Now and then an accepted message isn't queued."""
-    after_push(lambda waiting: waiting.pop())
+    return after_push(lambda waiting: waiting.pop(), *words)
 
 
-def double_message():
+# The second one is that a run says of such logs that they are clean.
+@fault(Hub, "push", of=["double_message", "double_unseen"])
+def double_message(*words):
     """Now and then a message is queued twice."""
-    after_push(lambda waiting: waiting.append(waiting[-1]))
+    return after_push(lambda waiting: waiting.append(waiting[-1]), *words)
 
 
-def double_unseen():
-    """Now and then a message is queued twice, and a run says that its logs are clean."""
-    double_message()
-    replace(simulation, "verdict_of")(lambda _right, _logs: "clean")
+@fault(simulation, "verdict_of", of=["double_unseen"])
+def call_clean(_right, _logs):
+    return "clean"
 
 
-def overtake():
+@fault(Hub, "push")
+def overtake(*words):
     """Now and then a message goes before those that wait."""
-    after_push(lambda waiting: waiting.rotate(1))
+    return after_push(lambda waiting: waiting.rotate(1), *words)
 
 
-def change_body():
+@fault(Agent, "deliver")
+def change_body(right, self, envelope):
     """Now and then another body is delivered."""
-
-    @replace(Agent, "deliver")
-    def deliver(right, self, envelope):
-        if envelope.name.number % 5 == 3 and not envelope.is_notice:
-            envelope = hub.Envelope(envelope.name, "0", envelope.ports, False)
-        return right(self, envelope)
+    if envelope.name.number % 5 == 3 and not envelope.is_notice:
+        envelope = hub.Envelope(envelope.name, "0", envelope.ports, False)
+    return right(self, envelope)
 
 
-def refuse_open():
+@fault(Hub, "push")
+def refuse_open(right, self, poster, queue, *words):
     """Now and then a post at an open end is refused."""
-
-    @replace(Hub, "push")
-    def push(right, self, poster, queue, *words):
-        if queue.counts[poster.line] == 3:
-            queue.counts[poster.line] += 1
-            return hub.CLOSED
-        return right(self, poster, queue, *words)
+    if queue.counts[poster.line] == 3:
+        queue.counts[poster.line] += 1
+        return hub.CLOSED
+    return right(self, poster, queue, *words)
 
 
-def take_newest_first():
+@fault(Hub, "take")
+def take_newest_first(_right, _self, end):
     """An adopted end is asked at its newest queue first."""
-
-    @replace(Hub, "take")
-    def take(_right, _self, end):
-        yield
-        for queue in reversed(end.queues if end.is_enabled else []):
-            if queue.waiting:
-                return queue.waiting.popleft()
-        return None
+    yield
+    for queue in reversed(end.queues if end.is_enabled else []):
+        if queue.waiting:
+            return queue.waiting.popleft()
+    return None
 
 
-def leave_early():
+@fault(Hub, "take")
+def leave_early(right, self, end):
     """A retired queue is left while a poster is inside."""
-
-    @replace(Hub, "take")
-    def take(right, self, end):
-        answer = yield from right(self, end)
-        if answer is hub.BUSY:
-            end.stage += 1
-        return answer
+    answer = yield from right(self, end)
+    if answer is hub.BUSY:
+        end.stage += 1
+    return answer
 
 
-def stay_enabled():
+@fault(End, "adopt")
+def stay_enabled(_right, self):
     """An adopted end stays enabled."""
-
-    @replace(End, "adopt")
-    def adopt(_right, self):
-        self.queues.append(hub.Queue())
+    self.queues.append(hub.Queue())
 
 
-def drop_ports():
+@fault(Hub, "arrive")
+def drop_ports(_right, _self, _number):
     """The ports of a message never come."""
-    replace(Hub, "arrive")(lambda _right, _self, _number: None)
 
 
-def adopt_in_reverse():
+@fault(Agent, "deliver")
+def adopt_in_reverse(right, self, envelope):
     """The ports of a message are adopted from the last to the first."""
-
-    @replace(Agent, "deliver")
-    def deliver(right, self, envelope):
-        count = len(self.log)
-        yield from right(self, envelope)
-        self.log[count + 1 :] = reversed(self.log[count + 1 :])
+    count = len(self.log)
+    yield from right(self, envelope)
+    self.log[count + 1 :] = reversed(self.log[count + 1 :])
 
 
-def lose_refused_ports():
+@fault(Agent, "post_over")
+def lose_refused_ports(right, self, poster, action):
     """A refused post loses its ports."""
-
-    @replace(Agent, "post_over")
-    def post_over(right, self, poster, action):
-        count = len(self.log)
-        yield from right(self, poster, action)
-        for end in map(self.hub.ends.__getitem__, action.transfer):
-            if len(self.log) == count and end in self.held:
-                self.held.remove(end)
+    count = len(self.log)
+    yield from right(self, poster, action)
+    for end in map(self.hub.ends.__getitem__, action.transfer):
+        if len(self.log) == count and end in self.held:
+            self.held.remove(end)
 
 
-def queue_doomed():
+@fault(Agent, "post_over")
+def queue_doomed(right, self, poster, action):
     """A message whose list holds its own target is queued."""
-
-    @replace(Agent, "post_over")
-    def post_over(right, self, poster, action):
-        ports = [self.hub.ends[number] for number in action.transfer]
-        if poster.end not in ports or not all(port in self.held for port in ports):
-            yield from right(self, poster, action)
-            return
-        for port in ports:
-            self.held.remove(port)
-        posted = yield from self.hub.post(poster, action.body, action.transfer)
-        self.note_put(posted, action.transfer, action.body)
+    ports = [self.hub.ends[number] for number in action.transfer]
+    if poster.end not in ports or not all(port in self.held for port in ports):
+        yield from right(self, poster, action)
+        return
+    for port in ports:
+        self.held.remove(port)
+    posted = yield from self.hub.post(poster, action.body, action.transfer)
+    self.note_put(posted, action.transfer, action.body)
 
 
-def give_up_early():
-    """A post is refused after one hop."""
-    hub.MOST_HOPS = 1
+# A post is refused after one hop.
+FAULTS["give_up_early"] = [lambda: setattr(hub, "MOST_HOPS", 1)]
 
 
-def adopt_as_first():
+@fault(Agent, "deliver")
+def adopt_as_first(right, self, envelope):
     """Each adoption is logged as the first."""
-
-    @replace(Agent, "deliver")
-    def deliver(right, self, envelope):
-        count = len(self.log)
-        yield from right(self, envelope)
-        for at, line in enumerate(self.log[count:], count):
-            if line.startswith("adopted"):
-                self.log[at] = line.rsplit(" ", 1)[0] + " 1"
+    count = len(self.log)
+    yield from right(self, envelope)
+    for at, line in enumerate(self.log[count:], count):
+        if line.startswith("adopted"):
+            self.log[at] = line.rsplit(" ", 1)[0] + " 1"
 
 
-def leave_ports_open():
+@fault(Agent, "finish")
+def leave_ports_open(right, self):
     """An agent that ends doesn't close its ports."""
-
-    @replace(Agent, "finish")
-    def finish(right, self):
-        for it in self.held.slots:
-            if isinstance(it, End) and it.kind == "port":
-                self.held.remove(it)
-        return right(self)
+    for it in self.held.slots:
+        if isinstance(it, End) and it.kind == "port":
+            self.held.remove(it)
+    return right(self)
 
 
-def forget_notice():
+@fault(Agent, "note_closed")
+def forget_notice(right, self, end, _notice, was_held=True):
     """A notice isn't logged where it was put."""
-
-    @replace(Agent, "note_closed")
-    def note_closed(right, self, end, _notice, was_held=True):
-        right(self, end, None, was_held)
+    right(self, end, None, was_held)
 
 
-def take_after_close():
+@fault(Agent, "note_closed")
+def take_after_close(right, self, end, notice, was_held=True):
     """What waits at an end is taken once it is closed."""
-
-    @replace(Agent, "note_closed")
-    def note_closed(right, self, end, notice, was_held=True):
-        right(self, end, notice, was_held)
-        if was_held and end.queues[-1].waiting:
-            self.note("got", end.queues[-1].waiting.popleft())
+    right(self, end, notice, was_held)
+    if was_held and end.queues[-1].waiting:
+        self.note("got", end.queues[-1].waiting.popleft())
 
 
-def cast_to_all():
+@fault(Hub, "cast")
+def cast_to_all(right, self, source, body):
     """A cast reaches the members of all origins."""
-
-    @replace(Hub, "cast")
-    def cast(right, self, source, body):
-        keys = {end: end.key for end in self.roster}
-        for end in keys:
-            end.key = source.key
-        answer = yield from right(self, source, body)
-        for end, key in keys.items():
-            end.key = key
-        return answer
+    keys = {end: end.key for end in self.roster}
+    for end in keys:
+        end.key = source.key
+    answer = yield from right(self, source, body)
+    for end, key in keys.items():
+        end.key = key
+    return answer
 
 
-def cast_to_fewer():
+@fault(Hub, "cast")
+def cast_to_fewer(right, self, source, body):
     """A cast passes over the member that was made first."""
-
-    @replace(Hub, "cast")
-    def cast(right, self, source, body):
-        first, self.roster = self.roster[:1], self.roster[1:]
-        answer = yield from right(self, source, body)
-        self.roster = first + self.roster
-        return answer
+    first, self.roster = self.roster[:1], self.roster[1:]
+    answer = yield from right(self, source, body)
+    self.roster = first + self.roster
+    return answer
 
 
-def miss_wake_ups():
-    """An agent that parks isn't woken by what comes later."""
-
-    @replace(Hub, "leave")
-    def leave(_right, _self, queue):
-        queue.inside -= 1
-
-    @replace(Hub, "push")
-    def push(right, self, *words):
-        count = self.changes
-        posted = right(self, *words)
-        if posted.number % 3:
-            self.changes = count
-        return posted
+# An agent that parks isn't woken by what comes later.
+@fault(Hub, "leave", of=["miss_wake_ups"])
+def leave_quietly(_right, _self, queue):
+    queue.inside -= 1
 
 
-def count_notices():
+@fault(Hub, "push", of=["miss_wake_ups"])
+def push_quietly(right, self, *words):
+    count = self.changes
+    posted = right(self, *words)
+    if posted.number % 3:
+        self.changes = count
+    return posted
+
+
+@fault(Agent, "deliver")
+def count_notices(right, self, envelope):
     """A wait counts notices."""
-
-    @replace(Agent, "deliver")
-    def deliver(right, self, envelope):
-        yield from right(self, envelope)
-        self.messages += envelope.is_notice
+    yield from right(self, envelope)
+    self.messages += envelope.is_notice
 
 
-def wait_for_more():
+@fault(Agent, "do_wait")
+def wait_for_more(_right, self, action):
     """A wait takes one message more than it asks for."""
-
-    @replace(Agent, "do_wait")
-    def do_wait(_right, self, action):
-        wanted = self.messages + action.count + 1
-        yield from self.turns_until(lambda: self.messages >= wanted)
+    wanted = self.messages + action.count + 1
+    yield from self.turns_until(lambda: self.messages >= wanted)
 
 
-def skip_waits():
+@fault(Agent, "do_wait")
+def skip_waits(_right, _self, _action):
     """A wait ends at once."""
-
-    @replace(Agent, "do_wait")
-    def do_wait(_right, _self, _action):
-        yield
+    yield
 
 
-def ignore_orders():
+@fault(Agent, "turn")
+def ignore_orders(right, self):
     """An agent that waits doesn't look at the order to end."""
-
-    @replace(Agent, "turn")
-    def turn(right, self):
-        self.is_ordered = lambda: False
-        answer = yield from right(self)
-        del self.is_ordered
-        return answer
+    self.is_ordered = lambda: False
+    answer = yield from right(self)
+    del self.is_ordered
+    return answer
 
 
-def order_another():
+@fault(Agent, "do_order")
+def order_another(right, self, action):
     """An order goes to the agent behind the one that is named."""
-
-    @replace(Agent, "do_order")
-    def do_order(right, self, action):
-        yield from right(self, action)
-        self.hub.orders.discard(action.to)
-        self.hub.orders.add((action.to + 1) % len(self.hub.ends))
+    yield from right(self, action)
+    self.hub.orders.discard(action.to)
+    self.hub.orders.add((action.to + 1) % len(self.hub.ends))
 
 
-def forget_start():
+@fault(Agent, "do_fetch")
+def forget_start(right, self, action):
     """A queue that was fetched isn't started."""
-
-    @replace(Agent, "do_fetch")
-    def do_fetch(right, self, action):
-        yield from right(self, action)
-        self.hub.ends[action.to].is_enabled = False
+    yield from right(self, action)
+    self.hub.ends[action.to].is_enabled = False
 
 
-def forget_delivery():
+@fault(simulation, "deliveries")
+def forget_delivery(right, logs):
     """The last of the lines behind the logs is missing."""
-    replace(simulation, "deliveries")(lambda right, logs: right(logs)[:-1])
+    return right(logs)[:-1]
 
 
-def check_nothing():
+@fault(simulation, "check")
+def check_nothing(_right, _data):
     """A check says that all logs are clean."""
-    replace(simulation, "check")(lambda _right, _data: ("clean\n", 0))
+    return "clean\n", 0
 
 
-def check_another_fault():
+@fault(simulation, "check")
+def check_another_fault(right, data):
     """A check says Gap in the place of Foreign."""
-
-    @replace(simulation, "check")
-    def check(right, data):
-        verdict, status = right(data)
-        return verdict.replace("Foreign", "Gap"), status
-
-
-FAULTS = {
-    fault.__name__: fault
-    for fault in (
-        lose_message, double_message, double_unseen, overtake, change_body, refuse_open,
-        take_newest_first, leave_early, stay_enabled, drop_ports, adopt_in_reverse,
-        lose_refused_ports, queue_doomed, give_up_early, adopt_as_first, leave_ports_open,
-        forget_notice, take_after_close, cast_to_all, cast_to_fewer, miss_wake_ups, count_notices,
-        wait_for_more, skip_waits, ignore_orders, order_another, forget_start, forget_delivery,
-        check_nothing, check_another_fault,
-    )
-}
+    verdict, status = right(data)
+    return verdict.replace("Foreign", "Gap"), status
