@@ -121,8 +121,7 @@ impl Recorder {
         body: &str,
     ) -> Result<(), Refusal> {
         let place = place_text(end, line, epoch, number)?;
-        let content = format!("{} {}", ports_text(ports)?, body_text(body)?);
-        self.write_put(place, &content)
+        self.write_put(place, &content_text(ports, body)?)
     }
 
     /// A put before the hand-over, which is taken back unless the guard is kept.
@@ -157,11 +156,8 @@ impl Recorder {
         body: &str,
     ) -> Result<(), Refusal> {
         let place = place_text(end, line, epoch, number)?;
-        self.write(&format!(
-            "got {place} {} {}",
-            ports_text(ports)?,
-            body_text(body)?
-        ))
+        let content = content_text(ports, body)?;
+        self.write(&format!("got {place} {content}"))
     }
 
     /// The last message of a line was accepted: it says that nothing more comes there.
@@ -183,10 +179,8 @@ impl Recorder {
         epoch: u32,
         number: u64,
     ) -> Result<(), Refusal> {
-        self.write(&format!(
-            "got {} notice",
-            place_text(end, line, epoch, number)?
-        ))
+        let place = place_text(end, line, epoch, number)?;
+        self.write(&format!("got {place} notice"))
     }
 
     /// The agent adopted an end, whose newest queue is `epoch`.
@@ -273,11 +267,7 @@ impl Drop for Putting<'_> {
 }
 
 fn within(value: u32, most: u32, refusal: Refusal) -> Result<(), Refusal> {
-    if value <= most {
-        Ok(())
-    } else {
-        Err(refusal)
-    }
+    (value <= most).then_some(()).ok_or(refusal)
 }
 
 /// `E L EP:N` of an entry.
@@ -298,14 +288,16 @@ fn ports_text(ports: &[u32]) -> Result<String, Refusal> {
     if !is_list || ports.iter().any(|&port| port > MOST_END) {
         return Err(Refusal::BadPorts);
     }
-    if ports.is_empty() {
-        return Ok("-".to_string());
+    let texts: Vec<_> = ports.iter().map(u32::to_string).collect();
+    match ports {
+        [] => Ok("-".to_string()),
+        _ => Ok(texts.join(",")),
     }
-    Ok(ports
-        .iter()
-        .map(u32::to_string)
-        .collect::<Vec<_>>()
-        .join(","))
+}
+
+/// `LIST BODY` of an entry.
+fn content_text(ports: &[u32], body: &str) -> Result<String, Refusal> {
+    Ok(format!("{} {}", ports_text(ports)?, body_text(body)?))
 }
 
 // Bodies
@@ -363,11 +355,7 @@ impl Reader<'_> {
             }
             if open.is_empty() {
                 self.skip_space();
-                return if self.at == self.text.len() {
-                    Some(())
-                } else {
-                    None
-                };
+                return (self.at == self.text.len()).then_some(());
             }
         }
     }
@@ -445,7 +433,7 @@ impl Reader<'_> {
         if self.peek()? != b'u' {
             let is_known = b"\"\\/bfnrt".contains(&self.peek()?);
             self.copy();
-            return if is_known { Some(()) } else { None };
+            return is_known.then_some(());
         }
         let unit = self.unit()?;
         if (0xdc00..0xe000).contains(&unit) {
@@ -485,24 +473,16 @@ impl Reader<'_> {
 
     fn number(&mut self) -> Option<()> {
         let begin = self.at;
-        if self.peek()? == b'-' {
-            self.copy();
-        }
-        if self.peek()? == b'0' {
-            self.copy();
-        } else {
+        self.is_copied(b"-");
+        if !self.is_copied(b"0") {
             self.digits()?;
         }
         let whole = self.at;
-        if self.peek() == Some(b'.') {
-            self.copy();
+        if self.is_copied(b".") {
             self.digits()?;
         }
-        if matches!(self.peek(), Some(b'e' | b'E')) {
-            self.copy();
-            if matches!(self.peek(), Some(b'+' | b'-')) {
-                self.copy();
-            }
+        if self.is_copied(b"eE") {
+            self.is_copied(b"+-");
             self.digits()?;
         }
         let text = std::str::from_utf8(&self.text[begin..self.at]).ok()?;
@@ -513,23 +493,21 @@ impl Reader<'_> {
 
     fn digits(&mut self) -> Option<()> {
         let begin = self.at;
-        while matches!(self.peek(), Some(b'0'..=b'9')) {
-            self.copy();
-        }
-        if self.at == begin {
-            None
-        } else {
-            Some(())
-        }
+        while self.is_copied(b"0123456789") {}
+        (self.at > begin).then_some(())
     }
 
     fn expect(&mut self, byte: u8) -> Option<()> {
-        if self.peek()? == byte {
+        self.is_copied(&[byte]).then_some(())
+    }
+
+    /// Copies the next byte where it is one of these, and says whether it was.
+    fn is_copied(&mut self, bytes: &[u8]) -> bool {
+        let is_one = self.peek().map_or(false, |byte| bytes.contains(&byte));
+        if is_one {
             self.copy();
-            Some(())
-        } else {
-            None
         }
+        is_one
     }
 
     fn peek(&self) -> Option<u8> {

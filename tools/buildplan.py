@@ -5,27 +5,16 @@ tells it what happened when. It foresees the rest of a build by playing it, with
 that each crate took before, and corrects that by how fast the build was until now.
 """
 
+import copy
 import dataclasses
 import math
 
 # Processor seconds that the proof of a crate took on the machine of docs/MEASURED.md. Only the
 # estimate of the time that is left, and which crate is begun first, rest on them.
 SECONDS = {
-    "hub_core": 300,
-    "hub_steps": 340,
-    "hub_agent": 295,
-    "hub_loop": 290,
-    "hub_queue": 230,
-    "hub_run": 195,
-    "hub_script": 170,
-    "hub_trace": 140,
-    "messagehub": 120,
-    "hub_modes": 120,
-    "hub_ports": 115,
-    "hub_broadcast": 115,
-    "hub_clients": 115,
-    "hub_envelope": 75,
-    "hub_gate": 55,
+    "hub_core": 300, "hub_steps": 340, "hub_agent": 295, "hub_loop": 290, "hub_queue": 230,
+    "hub_run": 195, "hub_script": 170, "hub_trace": 140, "messagehub": 120, "hub_modes": 120,
+    "hub_ports": 115, "hub_broadcast": 115, "hub_clients": 115, "hub_envelope": 75, "hub_gate": 55,
 }
 SECONDS_OF_ANOTHER = 30
 # How many processors a crate can use at most, and how many of them do work that one alone would do.
@@ -64,9 +53,7 @@ class Plan:
     def __init__(self, crates, processors, lanes, memory=math.inf, pace=1.0):
         self.crates, self.processors, self.pace = crates, processors, pace
         self.lanes, self.memory = lanes, memory
-        self.above = {
-            name: [it for it in crates if name in crates[it]] for name in crates
-        }
+        self.above = {name: [it for it in crates if name in crates[it]] for name in crates}
         self.done, self.at_work, self.now = set(), {}, 0.0
         self.chains = {}
         self.whole = self.foreseen()
@@ -93,7 +80,6 @@ class Plan:
         return self.rest(name) >= URGENT * max(map(self.rest, left))
 
     def ready(self):
-        """The crates that can be begun, that with the longest chain first."""
         names = [
             name for name, deps in self.crates.items()
             if name not in self.done and name not in self.at_work and self.done.issuperset(deps)
@@ -160,8 +146,7 @@ class Plan:
         self.now += seconds
 
     def copy(self):
-        other = Plan.__new__(Plan)
-        other.__dict__.update(self.__dict__)
+        other = copy.copy(self)
         other.done = set(self.done)
         other.at_work = {name: dataclasses.replace(it) for name, it in self.at_work.items()}
         return other
@@ -179,7 +164,6 @@ class Plan:
         return other.now - start
 
     def left(self):
-        """About how many seconds are left."""
         rest = self.foreseen()
         done = max(0.0, self.whole - rest)
         return rest * (self.now + self.pace * TRUSTED) / (done + TRUSTED)

@@ -5,6 +5,7 @@ pipe, or presses Ctrl-C, ends a command by that signal, with no traceback.
 """
 
 import argparse
+import os
 import pathlib
 import re
 import signal
@@ -20,8 +21,6 @@ def version():
 
 
 class Version(argparse.Action):
-    """Prints the version and ends the command."""
-
     def __init__(self, option_strings, dest):
         super().__init__(option_strings, dest, nargs=0, help="print the version, and end")
 
@@ -31,17 +30,47 @@ class Version(argparse.Action):
 
 
 def count_of(word):
-    """The number of an argument, from 0."""
     if not word.isascii() or not word.isdigit():
         raise argparse.ArgumentTypeError(f"{word} is no number")
     return int(word)
 
 
 def positive(word):
-    """The number of an argument, from 1."""
     if not word.isascii() or not word.isdigit() or int(word) == 0:
         raise argparse.ArgumentTypeError(f"{word} is no number above 0")
     return int(word)
+
+
+def seconds(word):
+    """A time from an argument."""
+    try:
+        count = float(word)
+    except ValueError:
+        count = 0
+    if not 0 < count < 1e6:
+        raise argparse.ArgumentTypeError(f"{word} is no time")
+    return count
+
+
+def is_program(path):
+    return os.path.isfile(path) and os.access(path, os.X_OK)
+
+
+def program(word):
+    """The whole path of a program from an argument."""
+    path = os.path.abspath(word)
+    if not is_program(path):
+        raise argparse.ArgumentTypeError(f"there is no program {path}")
+    return path
+
+
+def bytes_of(path):
+    """The bytes of a file, or of standard input where the path is None."""
+    if path is not None:
+        return pathlib.Path(path).read_bytes()
+    if sys.stdin is None:
+        raise OSError("standard input is closed")
+    return sys.stdin.buffer.read()
 
 
 class Parser(argparse.ArgumentParser):
@@ -62,14 +91,9 @@ class Parser(argparse.ArgumentParser):
         )
 
     def bytes_of(self, path):
-        """The bytes of a file, or of standard input where the path is None."""
+        """The same, which ends the command where it can't be read."""
         try:
-            if path is not None:
-                with open(path, "rb") as file:
-                    return file.read()
-            if sys.stdin is None:
-                self.error("standard input is closed")
-            return sys.stdin.buffer.read()
+            return bytes_of(path)
         except OSError as error:
             self.error(str(error))
 
@@ -79,7 +103,6 @@ class Parser(argparse.ArgumentParser):
 
 
 def write(text):
-    """Writes all that a command prints. May raise OSError."""
     if sys.stdout is None:
         raise OSError("standard output is closed")
     sys.stdout.buffer.write(text.encode())

@@ -25,8 +25,6 @@ STEPS = {"window": "client", "worker": "worker"}
 
 @dataclasses.dataclass
 class Ends:
-    """How many agents and ends there are, and the step lines that make them."""
-
     origins: list
     makings: list
     count: int
@@ -45,32 +43,26 @@ class Ends:
             end += 2 if making.startswith("channel") else 1
 
     def peers(self):
-        """By port, the other port of its channel."""
         firsts = [end for end, making in self.numbered() if making.startswith("channel")]
         return {end: end + 1 for end in firsts} | {end + 1: end for end in firsts}
 
     def members(self):
-        """The broadcast channels."""
         return {end for end, making in self.numbered() if making.startswith("member")}
 
     def step_lines(self):
         return [f"agent {origin}" for origin in self.origins] + self.makings
 
 
-# Of a script
-
-
 def of_script(data):
     """The ends that a script declares. hubscript.BadScript tells the first bad line."""
     found = hubscript.read(data)
     makings = [f"{STEPS[it.kind]} {agent}" for agent, it in enumerate(found.agents)]
-    makings += [f"channel {it.agent}" for it in found.channels]
-    makings += [f"member {it.agent} {json.dumps(it.on)}" for it in found.members]
+    ports = [it for it in found.declared if it.kind == "port"]
+    makings += [f"channel {it.agent}" for it in ports[::2]]
+    members = found.declared[len(ports):]
+    makings += [f"member {it.agent} {json.dumps(it.on)}" for it in members]
     origins = [weburl.origin_of(it.origin) for it in found.agents]
     return Ends(origins, makings, found.end_count(), False)
-
-
-# Of logs
 
 
 class Evidence:
@@ -131,7 +123,6 @@ class Evidence:
         return found if len(found) <= 1 else None
 
     def is_plain(self, end):
-        """Whether the end can be a port as far as its own entries say."""
         has_line_0 = self.goal.lines.get(end, [0]) == [0]
         return has_line_0 and (end not in self.adopted or end in self.ports)
 
@@ -259,7 +250,6 @@ class Maker:
             self.queues[self.makers[end]] += end in self.needed
 
     def maker(self, end):
-        """Who made an end that isn't a port."""
         users = self.evidence.users[end]
         if users:
             return min(users)

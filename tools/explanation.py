@@ -67,7 +67,6 @@ class Explanation:
             yield {"may_cross": True, "has_epochs": is_plain or has_epochs}, None
 
     def ends(self, options):
-        """The ends to try."""
         if self.known is not None:
             return [self.known]
         found = ends.guesses(self.goal, options.get("has_epochs", True))
@@ -121,8 +120,7 @@ def notes_of(state):
 
 
 def order_of(logs, known, most_states):
-    """The lines of all entries in the order of a schedule, and its ends. None where none is found.
-    """
+    """The lines of all entries in the order of a schedule, and its ends, or None."""
     explanation = Explanation(logs, known, most_states, is_close=True)
     try:
         state = None if explanation.is_hopeless else explanation.state()

@@ -7,6 +7,8 @@ the program. `read_logs` gives the logs, `judge` their verdict, `deliveries` wha
 """
 
 import bisect
+import dataclasses
+import itertools
 import json
 import re
 
@@ -28,6 +30,8 @@ FORMS = {
     b"hublog 3": (True, 31, 262_144),
 }
 
+# An opening bracket and a closing one, and texts, whose brackets are none.
+BRACKETS = re.compile(r'"[^"\\]*(?:\\.[^"\\]*)*"?|([\[{])|([\]}])', re.DOTALL)
 NUMBER = re.compile(r"(?:0|[1-9][0-9]*)\Z")
 
 
@@ -59,9 +63,43 @@ class Entry:
     def name(self):
         return self.epoch, self.number
 
+    def name_text(self):
+        return f"{self.epoch}:{self.number}"
+
     def key(self):
         """What tells it from all others: its end, its line and its name."""
         return self.end, self.line, self.epoch, self.number
+
+
+@dataclasses.dataclass(eq=False, slots=True)
+class Item:
+    """An entry of any word, with its agent and its line in the input."""
+
+    agent: int
+    word: str
+    said: object
+    at: int
+
+    @property
+    def end(self):
+        if self.word in ("put", "got"):
+            return self.said.end
+        return self.said[0] if self.word == "adopted" else self.said
+
+    @property
+    def is_message(self):
+        return self.word in ("put", "got") and self.said.content is not None
+
+    @property
+    def is_notice(self):
+        return self.word in ("put", "got") and self.said.content is None
+
+    @property
+    def ports(self):
+        return self.said.content[0] if self.is_message else ()
+
+    def name(self):
+        return self.said.name_text()
 
 
 class Log:
@@ -75,7 +113,6 @@ class Log:
         self.entries, self.places = [], []
 
     def without(self, left_out):
-        """The log without the entries at some text lines."""
         other = Log(self.agent)
         for entry, at in zip(self.entries, self.places):
             if at not in left_out:
@@ -119,32 +156,14 @@ def nesting_in(text):
     """How deep brackets are nested in a JSON text, also in values that equal keys replace."""
     if text.count("[") + text.count("{") <= MOST_NESTING_READ:
         return 0
-    depth = most = 0
-    is_text = is_escaped = False
-    for letter in text:
-        if is_escaped:
-            is_escaped = False
-        elif is_text:
-            is_escaped = letter == "\\"
-            is_text = letter != '"'
-        elif letter == '"':
-            is_text = True
-        elif letter in "[{":
-            depth += 1
-            most = max(most, depth)
-        elif letter in "]}":
-            depth -= 1
-    return most
-
-
-def is_text_sound(text):
-    """Whether no half of a surrogate pair stands alone."""
-    return not any("\ud800" <= letter <= "\udfff" for letter in text)
+    steps = ((found[1] is not None) - (found[2] is not None) for found in BRACKETS.finditer(text))
+    return max(itertools.accumulate(steps, initial=0))
 
 
 def check_texts(value):
     """Refuses texts that stand for no characters, also in values that equal keys replace."""
-    if isinstance(value, str) and not is_text_sound(value):
+    # Half of a surrogate pair that stands alone is no character.
+    if isinstance(value, str) and any("\ud800" <= letter <= "\udfff" for letter in value):
         raise NotThis
     if isinstance(value, Pairs):
         for key, member in value:
@@ -181,7 +200,6 @@ def json_of(text):
 
 
 def compact_body(text):
-    """The compact text of a body. NotThis where the text is none."""
     if text.startswith(" "):
         raise NotThis
     value = profile_of(json_of(text), 0)
@@ -222,18 +240,12 @@ def entry_of(rest, form, at):
         if len(body.encode()) > most_bytes:
             raise NotThis
         content = (list_of(words[3]), body)
-    return Entry(
-        number_of(words[0], MOST_END),
-        number_of(words[1], most_line),
-        number_of(epoch, MOST_EPOCH),
-        number_of(number, MOST_NUMBER),
-        content,
-        at,
-    )
+    end, line = number_of(words[0], MOST_END), number_of(words[1], most_line)
+    name = number_of(epoch, MOST_EPOCH), number_of(number, MOST_NUMBER)
+    return Entry(end, line, *name, content, at)
 
 
 def log_line_of(text, form, at):
-    """The word of a log line, and what it says."""
     word, space, rest = text.partition(" ")
     if not space:
         raise NotThis
@@ -388,7 +400,6 @@ def faults_of_line(got, accepted):
 
 
 def judge(logs):
-    """The verdict line, without its LF."""
     accepted = accepted_lists(logs)
     for (end, line), got in sorted(got_lists(logs).items()):
         for place, kind, _ in faults_of_line(got, accepted.get((end, line), [])):
@@ -400,7 +411,7 @@ def deliveries(logs):
     """The lines that `run` prints between `deliveries` and the verdict."""
     found = []
     for (end, line), got in sorted(got_lists(logs).items()):
-        names = " ".join(f"{entry.epoch}:{entry.number}" for entry, _ in got)
+        names = " ".join(entry.name_text() for entry, _ in got)
         found.append(f"end {end} line {line} {names}")
     return found
 
@@ -414,9 +425,6 @@ def answer(data):
     return verdict, 0 if verdict == "clean" else 1
 
 
-# Writing
-
-
 def text_of(word, said):
     """An entry as it stands in logs, its body as compact text."""
     if word == "closed":
@@ -426,4 +434,4 @@ def text_of(word, said):
     content = "notice"
     if said.content:
         content = f"{','.join(map(str, said.content[0])) or '-'} {said.content[1]}"
-    return f"{word} {said.end} {said.line} {said.epoch}:{said.number} {content}"
+    return f"{word} {said.end} {said.line} {said.name_text()} {content}"

@@ -52,29 +52,13 @@ class Agent:
     name: str | None = None
 
 
-@dataclasses.dataclass(frozen=True)
-class Channel:
-    """Two ports, by their names, and the agent that has both."""
-
-    names: list
-    agent: int
-
-
-@dataclasses.dataclass(frozen=True)
-class Member:
-    """A broadcast channel by its name, its agent, and the name that channels share."""
-
-    name: str
-    agent: int
-    on: str
-
-
 class Declared:
-    """A port or a member: its number as an end, who declares it where, its peer or its key."""
+    """A port or a member: its number as an end, who declares it where, its peer; or what it is `on`
+    and its key, that with its origin."""
 
-    def __init__(self, kind, name, agent, line):
+    def __init__(self, kind, name, agent, line, on=None):
         self.kind, self.name, self.agent, self.line = kind, name, agent, line
-        self.end = self.peer = self.key = None
+        self.on, self.end, self.peer, self.key = on, None, None, None
 
 
 class Action:
@@ -96,13 +80,12 @@ class Script:
     """Agents, what is declared by rising number of its end, and the actions by agent."""
 
     def __init__(self, reader):
-        self.agents = reader.agents
-        self.channels, self.members = reader.channels, reader.members
-        self.declared = reader.ports + reader.member_ends
+        self.agents, self.declared = reader.agents, reader.ports + reader.members
         for end, declared in enumerate(self.declared, len(self.agents)):
             declared.end = end
-        for declared, member in zip(reader.member_ends, self.members):
-            declared.key = weburl.origin_of(self.agents[member.agent].origin), member.on
+            if declared.kind == "member":
+                origin = weburl.origin_of(self.agents[declared.agent].origin)
+                declared.key = origin, declared.on
         end_of = {it.name: it.end for it in self.declared}
         self.actions = [[] for _ in self.agents]
         for line, word, values in reader.actions:
@@ -118,11 +101,21 @@ class Script:
         return len(self.agents) + len(self.declared)
 
     def declared_of(self, end):
-        """The port or member of that number."""
         return self.declared[end - len(self.agents)]
 
+    def targets(self, action):
+        """The ends at which an action puts its message. A post whose list holds its own target is
+        doomed, and puts nothing."""
+        if action.word == "send":
+            return {action.to}
+        if action.word not in ("post", "cast"):
+            return set()
+        source = self.declared_of(action.end)
+        if action.word == "post":
+            return {source.peer.end}.difference(action.transfer)
+        return {it.end for it in self.declared if it.key == source.key and it is not source}
+
     def end_names(self):
-        """The names of ports and members, by rising number of their ends."""
         return [it.name for it in self.declared]
 
 
@@ -142,8 +135,7 @@ class Reader:
     def __init__(self, is_strict):
         self.is_strict = is_strict
         self.mistakes, self.line, self.count = [], 0, 0
-        self.agents, self.channels, self.members = [], [], []
-        self.ports, self.member_ends, self.actions = [], [], []
+        self.agents, self.ports, self.members, self.actions = [], [], [], []
         # Of ports and members, by name. By agent and name: what is held, and how it was lost.
         self.named, self.held, self.lost = {}, set(), {}
         # By the name of an agent, its number; by agent, the line at which it hands its queue on.
@@ -218,7 +210,6 @@ class Reader:
             self.read_action(word, fields)
 
     def as_program_reads(self, line, word, fields):
-        """The line without the names of agents."""
         form = scriptlines.FORMS[word]
         numbers = {
             name: self.agent_names.get(field.value)
@@ -297,7 +288,6 @@ class Reader:
         self.agents.append(Agent(values.get("agent"), url, name))
 
     def declare_channel(self, values, names):
-        self.channels.append(Channel(names, values.get("at")))
         pair = [self.declare("port", name, values.get("at")) for name in names]
         for port, peer in zip(pair, reversed(pair)):
             port.peer = peer
@@ -305,11 +295,10 @@ class Reader:
 
     def declare_member(self, values, names):
         for name in names:
-            self.members.append(Member(name, values.get("at"), values.get("on")))
-            self.member_ends.append(self.declare("member", name, values.get("at")))
+            self.members.append(self.declare("member", name, values.get("at"), values.get("on")))
 
-    def declare(self, kind, name, agent):
-        declared = Declared(kind, name, agent, self.line)
+    def declare(self, kind, name, agent, on=None):
+        declared = Declared(kind, name, agent, self.line, on)
         self.named.setdefault(name, declared)
         self.held.add((agent, name))
         return declared
@@ -334,7 +323,6 @@ class Reader:
         self.act(word, values)
 
     def agent_at(self, number):
-        """The agent of that number, or None."""
         agents = self.agents
         return agents[number] if number is not None and number < len(agents) else None
 
@@ -344,7 +332,6 @@ class Reader:
         return f"agent {shown(agent.name) if agent and agent.name is not None else number}"
 
     def place_faults(self, word, values):
-        """Why an action doesn't fit what its agent is and has done."""
         number, value = values.get("at"), values.get(word)
         agent, handed = self.agent_at(number), self.handed.get(number)
         kind, called = agent and agent.kind, self.called(number)
@@ -423,7 +410,6 @@ class Reader:
                 self.tell("DataClone(Detached)", f"transfer: {why}")
 
     def act(self, word, values):
-        """Adds what an action says."""
         number, name = values.get("at"), values.get(word)
         self.actions.append((self.line, word, values))
         if word in ("post", "send"):

@@ -117,11 +117,9 @@ class End:
         return any(line.phase != OUT and line.stand == epoch for line in self.lines)
 
     def is_held(self):
-        """Whether an agent has it."""
         return self.place == WITH and not self.is_closed
 
     def where(self):
-        """Where it is."""
         if self.is_closed:
             return f"end {self.number} is closed"
         return {
@@ -131,7 +129,6 @@ class End:
         }[self.place].format(self.number, self.agent)
 
     def what(self):
-        """What it is."""
         return f"end {self.number} is a {CALLED[self.kind]}"
 
     def next_name(self, line):
@@ -180,8 +177,6 @@ ARITY = {
 
 
 class Machine:
-    """The hub, one step line at a time."""
-
     def __init__(self):
         self.origins, self.ends, self.happened = [], [], []
         # The members in the order in which they joined.
@@ -227,7 +222,6 @@ class Machine:
         return int(word)
 
     def running(self, word):
-        """The agent, which runs."""
         agent = self.agent(word)
         need(agent not in self.ending, "agent {} runs no more: `see` showed it `ending`", agent)
         return agent
@@ -244,7 +238,6 @@ class Machine:
         return end, int(line)
 
     def source(self, end):
-        """The port that posts to a port."""
         return self.ends[end.peer]
 
     def speaker(self, end, line):
@@ -259,7 +252,6 @@ class Machine:
             raise Refused(NOT_NOW, "{}", self.why_silent(end, at))
 
     def why_silent(self, end, at):
-        """Why no running agent holds a line."""
         if end.kind == "member":
             return f"{end.what()}, by whose line only a `cast` posts"
         if end.kind == "port" and not self.source(end).is_held():
@@ -287,13 +279,11 @@ class Machine:
         need(not end.lines[at].is_noticed, "end {} has put its notice", end.peer)
 
     def need_owner(self, end):
-        """Tests that a running agent has the end."""
         if end.place != WITH:
             raise Refused(NOT_NOW, "{}", end.where())
         self.running(end.agent)
 
     def own_line(self, port):
-        """The line at which a port posts."""
         return self.ends[port.peer].lines[0]
 
     # Making
@@ -411,7 +401,6 @@ class Machine:
         return own.phase == OUT and not own.is_noticed
 
     def why_kept(self, port, agent):
-        """Why an agent may not send a port."""
         if not port.is_held():
             return port.where()
         if port.agent != agent:
@@ -558,7 +547,6 @@ class Machine:
     # Closing
 
     def close(self, end):
-        """Closes an end, a port with its notice."""
         expect(not end.is_closed, "closed")
         need(end.place != FLIGHT, "{}", end.where())
         answer = ""
@@ -608,8 +596,7 @@ class Machine:
         expect(ports == "-", "not-transferable")
         self.caster = end.agent
         answers = [
-            f"{other.number} {self.attempt(other, 0, (), body)}"
-            for other in self.destinations(end)
+            f"{other.number} {self.attempt(other, 0, (), body)}" for other in self.destinations(end)
         ]
         self.caster = None
         return f"cast {' '.join(answers) or 'nobody'}"

@@ -46,13 +46,22 @@ def names_of(data, agents=None):
     return Names({**kinds, **(agents or {})}, queues + ends)
 
 
-# How it is told
-
-
 def plural(count, word):
     if count == 1:
         return f"1 {word}"
     return f"{count:,} {word[:-1]}ies" if word.endswith("ry") else f"{count:,} {word}s"
+
+
+def aligned(rows, numbers=0):
+    """Rows of texts as lines, each column as wide as its widest text, the first so many at its
+    right side."""
+    widths = [max(map(len, column)) for column in zip(*rows)]
+    for row in rows:
+        cells = [
+            cell.rjust(width) if at < numbers else cell.ljust(width)
+            for at, (cell, width) in enumerate(zip(row, widths))
+        ]
+        yield "  ".join(cells).rstrip()
 
 
 def visible(text):

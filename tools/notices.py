@@ -8,21 +8,18 @@ HEAD = "The {} has parts of these crates of the Rattle toolchain, under these li
 def crates_of_kit(names, kit):
     """The toolchain's crates that crates of the repository are made of, with those below them."""
     named = cratelist.libraries()
-    found, left = set(), [*names, "std"]
-    while left:
-        name = left.pop()
-        if name in found:
-            continue
-        found.add(name)
-        below = kit / "rlibs" / f"{name}.rlib" / "below"
-        left += named.get(name, [])
-        left += [path.name for path in below.iterdir()] if below.is_dir() else []
-    return sorted(found - set(named))
+
+    def below(name):
+        folder = kit / "rlibs" / f"{name}.rlib" / "below"
+        listed = folder.iterdir() if folder.is_dir() else ()
+        return [*named.get(name, []), *(path.name for path in listed)]
+
+    return sorted(cratelist.reached([*names, "std"], below).keys() - named)
 
 
-def of(names, what, kit):
+def of(names, what):
     """The licences of these crates: each text once, behind the crates that have it."""
-    texts = {}
+    kit, texts = cratelist.kit(), {}
     for name in crates_of_kit(names, kit):
         folder = kit / "rattle" / name
         for path in sorted(folder.glob("LICENSE*")) if folder.is_dir() else []:

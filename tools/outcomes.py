@@ -29,11 +29,8 @@ COLUMNS = 100
 ANY = "*"
 
 
-class BadExpectation(Exception):
+class BadExpectation(hublog.BadInput):
     """A line of expectations that can't be read: its number, and why."""
-
-    def __init__(self, line, why):
-        super().__init__(f"line {line}: {why}")
 
 
 def name_of(text):
@@ -41,8 +38,6 @@ def name_of(text):
 
 
 class Names:
-    """What the ends of a script are called."""
-
     def __init__(self, script):
         agents = [it.name for it in script.agents]
         queues = [
@@ -69,7 +64,6 @@ class Names:
 
 
 def deliveries(logs, names):
-    """By end, the messages that came there, in order."""
     found = {}
     for end, arrivals in sorted(hublog.arrivals_of(logs).items()):
         entries = [entry for _, _, entry in arrivals if entry is not None]
@@ -80,7 +74,6 @@ def deliveries(logs, names):
 
 
 def lines_of(found, names):
-    """What came, as text lines."""
     for end, messages in found.items():
         line = f"{names.ends[end]}: {', '.join(messages) or 'nothing'}"
         if len(line) <= COLUMNS:
@@ -88,9 +81,6 @@ def lines_of(found, names):
         else:
             yield f"{names.ends[end]}:"
             yield from (f"    {message}" for message in messages)
-
-
-# What is expected
 
 
 class Expectation:
@@ -113,7 +103,10 @@ class Expectation:
 
 
 class Reader:
-    """Reads what is expected: pairs of a name and messages, some on lines of their own."""
+    """Reads what is expected: pairs of a name and messages, some on lines of their own.
+
+    BadExpectation tells the first line that can't be read.
+    """
 
     def __init__(self, names):
         self.names, self.found = names, []
@@ -154,7 +147,6 @@ class Reader:
             raise ValueError(f"the script has no {scriptlines.cut(name)}{near}") from None
 
     def messages_in(self, text):
-        """The messages of a line, joined by commas."""
         at = 0
         while at < len(text):
             if text.startswith(ANY, at):
@@ -181,13 +173,7 @@ class Reader:
         return self.names.message(ports, body), at
 
 
-def expectations(data, names):
-    """What a file expects. BadExpectation tells the first line that can't be read."""
-    return Reader(names).read(data)
-
-
 def unmet(found, wanted, names):
-    """What doesn't come as it was expected, as text lines."""
     for expectation in wanted:
         came = found.get(expectation.end, [])
         if not expectation.is_met(came):

@@ -17,8 +17,8 @@ import dataclasses
 import functools
 import pathlib
 import re
-import sys
 
+import command
 import hublog
 from naming import short, visible
 
@@ -57,7 +57,6 @@ class Source:
     is_cut: bool = False
 
     def agents(self):
-        """The agents that have a log here, in order."""
         found = [AGENT.fullmatch(line) for line in self.lines if line.startswith(b"agent ")]
         return list(dict.fromkeys(int(it[1]) for it in found if it))
 
@@ -117,7 +116,6 @@ class Recording:
         return self.place(at) if len(self.paths) > 1 else f"line {self.origin(at)[1]}"
 
     def is_empty(self):
-        """Whether nothing is recorded."""
         return not any(log.entries for log in self.logs)
 
     def text(self, without=frozenset()):
@@ -130,8 +128,7 @@ class Recording:
         """At which lines `got` entries stand that can't be judged, since a log is missing."""
         if not self.missing:
             return frozenset()
-        messages = [it for log in self.logs for it in log.entries if it[0] == "put"]
-        accepted = {(put.end, put.line, put.name()) for _, put in messages}
+        accepted = {said.key() for log in self.logs for word, said in log.entries if word == "put"}
         return frozenset(at for log in self.logs for at in unjudged_of(log, accepted))
 
     def judged_logs(self):
@@ -147,7 +144,7 @@ def unjudged_of(log, accepted):
         if word == "adopted":
             moved.add(said[0])
         elif word == "got":
-            if said.end in moved or (said.end, said.line, said.name()) not in accepted:
+            if said.end in moved or said.key() not in accepted:
                 yield at
 
 
@@ -162,6 +159,11 @@ def names_of(sources):
 
 
 # Reading
+
+
+def add_paths(parser):
+    parser.add_argument("paths", nargs="*", metavar="FILE or FOLDER",
+                        help="the logs; standard input where none is named")
 
 
 def of_command(parser, names):
@@ -186,7 +188,7 @@ def read(names, is_recorded=False):
     sources, missing = [], []
     paths = paths_of(names) or [(None, False)]
     for path, is_in_folder in paths:
-        data = bytes_of(path)
+        data = command.bytes_of(path)
         is_one = is_recorded or is_in_folder or len(paths) > 1
         name = STANDARD_INPUT if path is None else visible(str(path))
         source = source_of(name, data, is_one, is_recorded)
@@ -196,14 +198,6 @@ def read(names, is_recorded=False):
             sources.append(source)
     titles = [pathlib.PurePath(name).name or str(name) for name in names] or [STANDARD_INPUT]
     return joined(sources, missing, titles, is_recorded)
-
-
-def bytes_of(path):
-    if path is not None:
-        return path.read_bytes()
-    if sys.stdin is None:
-        raise OSError("standard input is closed")
-    return sys.stdin.buffer.read()
 
 
 def paths_of(names):
@@ -240,7 +234,6 @@ def source_of(path, data, is_one, is_strict):
 
 
 def recorded_source(path, lines, is_cut):
-    """The log of one agent, as a recorder wrote it."""
     if lines in ([], [HEADER]):
         return None
     if lines[0] != HEADER:
@@ -254,7 +247,6 @@ def recorded_source(path, lines, is_cut):
 
 
 def joined(sources, missing, titles, needs_logs):
-    """The recording of all sources, those of one agent in order of their agents."""
     refuse_double(sources)
     recorded = sorted((it for it in sources if it.is_recorded), key=lambda it: it.agents())
     others = [it for it in sources if not it.is_recorded and it.header is not None]
@@ -283,12 +275,8 @@ def refuse_double(sources):
 
 
 def met_by(source):
-    """The agents that have to have a log as well."""
     met = (MEETS.fullmatch(line) for line in source.lines if line.startswith(b"meets "))
     return [*source.agents(), *(int(it[1]) for it in met if it)]
-
-
-# Casts
 
 
 def heard_casts(sources):
@@ -323,7 +311,6 @@ def plain_entries(entry, heard):
 
 
 def spread_casts(sources):
-    """Puts plain entries in the place of those that only a recorder writes."""
     heard = heard_casts(sources)
     for source in sources:
         spread = [(at, plain) for at, entry in source.entries()

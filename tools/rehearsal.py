@@ -1,12 +1,13 @@
 """Plays a script on simulated threads beforehand, and says where and why it would wait for ever.
 
-`rehearse` plays it in a number of schedules. A schedule in which agents wait for what nobody sends
+`Rehearsal` plays it in a number of schedules. A schedule in which agents wait for what nobody sends
 comes to a rest; `Rest.told` says which agent waits at which line, for what, and why nothing comes.
 """
 
 import collections
 
 import hublog
+from naming import plural
 from scriptlines import shown
 from simulator import simulation
 from simulator.hub import End
@@ -14,14 +15,10 @@ from simulator.hub import End
 SCHEDULES = 32
 
 
-def counted(count, word="message"):
-    return f"{count:,} {word}" if count == 1 else f"{count:,} {word}s"
-
-
 class Rehearsal:
     """What the schedules came to: how many there were, and the rests by where agents wait."""
 
-    def __init__(self, script, schedules):
+    def __init__(self, script, schedules=SCHEDULES):
         self.script, self.schedules = script, schedules
         self.rests = collections.defaultdict(list)
         for seed in range(schedules):
@@ -44,7 +41,6 @@ class Rehearsal:
             yield f"in {stuck - count} more it waits for ever elsewhere"
 
     def left_to_do(self):
-        """What each agent had still to do where a run doesn't end."""
         if self.rests:
             return list(max(self.rests.values(), key=len)[0].left_to_do())
         lines = [f"none of {self.schedules} schedules tried waits for ever; lines that wait are"]
@@ -55,12 +51,7 @@ class Rehearsal:
         return lines
 
 
-def rehearse(script, schedules=SCHEDULES):
-    return Rehearsal(script, schedules)
-
-
 def called(script, number):
-    """An agent by its name, if it has one."""
     name = script.agents[number].name
     return f"agent {number if name is None else shown(name)}"
 
@@ -98,7 +89,7 @@ class Rest:
                 yield f"{called(self.script, agent.number)} would have ended"
                 continue
             behind = sum(it.line > agent.action.line for it in agent.actions)
-            rest = f", and {counted(behind, 'line')} behind it" if behind else ""
+            rest = f", and {plural(behind, 'line')} behind it" if behind else ""
             name = called(self.script, agent.number)
             yield f"{name} would stand at line {agent.action.line}{rest}"
 
@@ -116,10 +107,9 @@ class Rest:
         if action.word == "fetch":
             return self.name_of(action.to)
         came = agent.messages - agent.had
-        return counted(action.count) + (f", of which {came:,} came" if came else "")
+        return plural(action.count, 'message') + (f", of which {came:,} came" if came else "")
 
     def holder(self, end):
-        """The agent that holds an end, or None."""
         found = self.hub.ends[end]
         return next((it for it in self.agents if found in it.held), None)
 
@@ -146,14 +136,16 @@ class Rest:
         if not self.hub.ends[end].is_enabled:
             return self.why_not_started(agent, end, name)
         put, here, before = self.put[end], *self.came(agent, end)
-        said = f"at {name} {counted(put) if put else 'nothing'} {'were' if put > 1 else 'was'} put"
+        count = plural(put, "message") if put else "nothing"
+        said = f"at {name} {count} {'were' if put > 1 else 'was'} put"
         came = [f"{count:,} {word}" for count, word in [(before, "came before"), (here, "came")]
                 if count]
         return f"{', '.join([said, *came])}; {self.why_no_more(agent, end)}"
 
     def why_not_started(self, agent, end, name):
         waiting = self.waiting(end)
-        there = f"; {counted(waiting)} wait{'s' * (waiting == 1)} there" if waiting else ""
+        count = plural(waiting, "message")
+        there = f"; {count} wait{'s' * (waiting == 1)} there" if waiting else ""
         later = [it.line for it in agent.actions
                  if it.end == end and it.word in ("start", "loaded") and
                  it.line > agent.action.line]
@@ -169,16 +161,15 @@ class Rest:
         return sum(got[before:]), sum(got[:before])
 
     def putters(self, end):
-        """The agents of whose actions some put at an end."""
-        return [it for it in self.agents if any(end in self.targets(act) for act in it.actions)]
+        targets = self.script.targets
+        return [it for it in self.agents if any(end in targets(act) for act in it.actions)]
 
     def why_no_more(self, agent, end):
-        """Why nothing more is put at an end."""
         putters = self.putters(end)
         going = [it for it in putters if it in self.going]
         for other in going:
             for action in other.actions:
-                if action.line > other.action.line and end in self.targets(action):
+                if action.line > other.action.line and end in self.script.targets(action):
                     if other is agent:
                         return f"line {action.line} would put one there, behind this wait"
                     return f"{called(self.script, other.number)} would put one there at line " \
@@ -186,17 +177,6 @@ class Rest:
         if not putters:
             return "no line of the script puts there"
         return "no line behind puts more there" if going else "who would put more there has ended"
-
-    def targets(self, action):
-        """The ends at which an action puts."""
-        if action.word == "send":
-            return {action.to}
-        if action.word not in ("post", "cast"):
-            return set()
-        source = self.script.declared_of(action.end)
-        if action.word == "post":
-            return {source.peer.end}
-        return {it.end for it in self.script.declared if it.key == source.key and it is not source}
 
     # Why a port or a queue doesn't come
 

@@ -13,6 +13,7 @@ import dataclasses
 import command
 import ends
 import explanation
+import hublog
 import hubscript
 import naming
 import recordings
@@ -30,12 +31,9 @@ COLOURS = 8
 WRONG = frozenset(["came", "last", "use", "maker", "got", "again", "first"])
 
 
-# What happened
-
-
 @dataclasses.dataclass(eq=False, slots=True)
-class Moment:
-    """One entry: its lane, its place there, what it says, and its line in the file, from 1.
+class Moment(hublog.Item):
+    """One entry, with its lane and its place there.
 
     A `got` has its `put`, None where no log has one, and a `put` has its `gots`. `row` counts the
     moments in the order of the run.
@@ -43,9 +41,6 @@ class Moment:
 
     lane: int
     place: int
-    word: str
-    said: object
-    at: int
     put: "Moment | None" = None
     gots: "list[Moment]" = dataclasses.field(default_factory=list)
     row: int | None = None
@@ -57,21 +52,10 @@ class Moment:
             return self
         return (self.put or self) if self.word == "got" else None
 
-    @property
-    def end(self):
-        if self.word in ("put", "got"):
-            return self.said.end
-        return self.said[0] if self.word == "adopted" else self.said
-
-    def name(self):
-        """`EP:N` of a message."""
-        return f"{self.said.epoch}:{self.said.number}"
-
     def kind(self):
-        """How a message is drawn."""
-        if self.said.content is None:
+        if self.is_notice:
             return "notice"
-        return "ports" if self.said.content[0] else "message"
+        return "ports" if self.ports else "message"
 
 
 @dataclasses.dataclass(frozen=True)
@@ -101,7 +85,7 @@ class Run:
         self.names, self.recording = names, recording
         self.title = " ".join(map(naming.visible, recording.titles))
         entries, judged, self.found = verdict.of_recording(
-            recording, known and known.verdict, words.allow_left, words.allow_waiting
+            recording, known, words.allow_left, words.allow_waiting
         )
         self.missing = recording.missing
         self.agents, lanes = lanes_of(recording.logs)
@@ -148,11 +132,9 @@ class Run:
         return [it for it in self.moments if it.word == "got"]
 
     def place(self, moment):
-        """Where an entry stands."""
         return self.recording.short_place(moment.at)
 
     def verdict(self):
-        """The whole verdict in a line."""
         if not self.moments:
             return "Nothing is recorded."
         if self.found:
@@ -163,25 +145,15 @@ class Run:
             "Right: nothing was found.")
 
     def order(self):
-        """What is to be said of the order."""
         order = "one that could be" if self.is_found else "a guess"
         return f"Order between agents: {order}; logs have no times."
-
-
-@dataclasses.dataclass(frozen=True)
-class Known:
-    """What a script tells to those who judge, and to those who look for an order."""
-
-    verdict: verdict.Known
-    ends: ends.Ends
 
 
 def channels_of(moments, peers):
     """By end, the colour of its channel; two ports of one share it."""
     colours = {}
     for moment in moments:
-        listed = moment.said.content[0] if moment.message and moment.said.content else ()
-        for end in (moment.end, *listed):
+        for end in (moment.end, *moment.ports):
             channel = min(end, peers.get(end, end))
             colours.setdefault(channel, len(colours) % COLOURS)
     return {
@@ -191,13 +163,12 @@ def channels_of(moments, peers):
 
 
 def lanes_of(logs):
-    """The agents in order of the input, and the moments of each."""
     lanes = {}
     for log in logs:
         lane = lanes.setdefault(log.agent, [])
         place = list(lanes).index(log.agent)
         for (word, said), at in zip(log.entries, log.places):
-            lane.append(Moment(place, len(lane), word, said, at))
+            lane.append(Moment(log.agent, word, said, at, place, len(lane)))
     return list(lanes), list(lanes.values())
 
 
@@ -218,7 +189,9 @@ def join_messages(lanes):
             moment.put.gots.append(moment)
 
 
-# An order that is guessed
+def side_of(lane, lane_count):
+    """To which side of a lane there is room beside it."""
+    return -1 if lane == lane_count - 1 and lane > 0 else 1
 
 
 class Guess:
@@ -241,7 +214,6 @@ class Guess:
         self.has_epochs = {end for end, epochs in self.epochs.items() if len(epochs) > 1}
 
     def run(self):
-        """All moments in order, and the gots above their put."""
         while True:
             heads = [lane[at] for lane, at in zip(self.lanes, self.nexts) if at < len(lane)]
             if not heads:
@@ -289,19 +261,11 @@ class Guess:
         return place, moment.lane != self.last, moment.lane
 
 
-# The command
-
-
 class Parser(command.Parser):
-    """The arguments of a command that shows logs, and the run that they name."""
-
     def __init__(self, prog, about):
         super().__init__(prog, about)
         verdict.add_options(self)
-        self.add_argument(
-            "paths", nargs="*", metavar="FILE or FOLDER",
-            help="the logs; standard input where none is named",
-        )
+        recordings.add_paths(self)
 
     def read(self):
         """The arguments, and the run. Ends the program where it can't be read."""
@@ -312,7 +276,7 @@ class Parser(command.Parser):
             names = naming.Names(recording.names)
             if script is not None:
                 names = naming.names_of(script, recording.names)
-                known = Known(verdict.known_of(script), ends.of_script(script))
+                known = verdict.known_of(script)
         except hubscript.BadScript as bad:
             self.error(f"{words.script}: {bad}")
         except OSError as error:

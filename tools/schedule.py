@@ -13,8 +13,10 @@ swept, where a port is closed that no log says was closed, and where a member ha
 
 import bisect
 import collections
+import copy
 import dataclasses
 
+import hublog
 from machine import ARRIVED, INSIDE, MOST_HOPS, OUT, WITH, Machine
 
 
@@ -23,32 +25,10 @@ class Undecided(Exception):
 
 
 @dataclasses.dataclass(eq=False, slots=True)
-class Item:
-    """One entry of an agent's log, and its line in the file. `place` counts the agent's entries."""
+class Item(hublog.Item):
+    """One entry of an agent's log. `place` counts the agent's entries."""
 
-    agent: int
     place: int
-    word: str
-    said: object
-    at: int
-
-    @property
-    def end(self):
-        if self.word in ("put", "got"):
-            return self.said.end
-        return self.said[0] if self.word == "adopted" else self.said
-
-    @property
-    def is_message(self):
-        return self.word in ("put", "got") and self.said.content is not None
-
-    @property
-    def is_notice(self):
-        return self.word in ("put", "got") and self.said.content is None
-
-    @property
-    def ports(self):
-        return self.said.content[0] if self.is_message else ()
 
 
 class Goal:
@@ -60,7 +40,7 @@ class Goal:
         for log in logs:
             mine = self.items[log.agent]
             for (word, said), at in zip(log.entries, log.places):
-                mine.append(Item(log.agent, len(mine), word, said, at))
+                mine.append(Item(log.agent, word, said, at, len(mine)))
         # By end and line: what is put there, by name.
         self.puts = collections.defaultdict(list)
         for item in self.all("put"):
@@ -75,7 +55,12 @@ class Goal:
         self.mentioned.update(port for item in self.all("put", "got") for port in item.ports)
         # By what was got, who got it, and where.
         self.getters = {it.said.key(): (it.agent, it.place) for it in self.all("got")}
-        self.arrivals = self.arrivals_of(logs)
+        # By queue of an end with several lines, what was got there, in order.
+        self.arrivals = collections.defaultdict(list)
+        for end, arrivals in hublog.arrivals_of(logs).items():
+            for _, _, said in arrivals if self.has_several_lines(end) else ():
+                if said is not None:
+                    self.arrivals[end, said.epoch].append(said)
         self.uses = self.places_of_uses()
 
     def all(self, *words):
@@ -83,20 +68,6 @@ class Goal:
 
     def has_several_lines(self, end):
         return len(self.lines.get(end, ())) > 1
-
-    def arrivals_of(self, logs):
-        """By queue of an end with several lines, what was got there, in order."""
-        found = collections.defaultdict(list)
-        for log in logs:
-            stretch = {}
-            for word, said in log.entries:
-                if word == "adopted":
-                    stretch[said[0]] = said[1]
-                elif word == "got" and self.has_several_lines(said.end):
-                    found[said.end, said.epoch].append((stretch.get(said.end, 0), said))
-        for gots in found.values():
-            gots.sort(key=lambda pair: pair[0])
-        return found
 
     def places_of_uses(self):
         """By agent and end, the places where the agent takes there, adopts it or closes it."""
@@ -106,7 +77,6 @@ class Goal:
         return uses
 
     def item(self, agent, place):
-        """An item of an agent's log, or None behind the last one."""
         return self.items[agent][place] if place < len(self.items[agent]) else None
 
     def next_use(self, agent, end, place):
@@ -129,7 +99,7 @@ class Ranks:
         self.ranks, self.floors = {}, {}
         self.goal, self.peers = goal, peers
         for gots in goal.arrivals.values():
-            names = dict.fromkeys(said.key() for _, said in gots)
+            names = dict.fromkeys(said.key() for said in gots)
             self.ranks.update((name, rank) for rank, name in enumerate(names))
         queues = collections.defaultdict(list)
         for item in goal.all("put"):
@@ -198,11 +168,10 @@ class State:
 
     def copy(self, numbers):
         """A copy, in which the ends of these numbers may change."""
-        other = State(self.machine.copy(numbers), list(self.places))
+        other = copy.copy(self)
+        other.machine, other.places = self.machine.copy(numbers), list(self.places)
         other.done, other.taken = self.done.copy(), self.taken.copy()
         other.ranked = self.ranked.copy()
-        other.hidden, other.trace, other.left_out = self.hidden, self.trace, self.left_out
-        other.is_noticed, other.is_renamed = self.is_noticed, self.is_renamed
         return other
 
     def key(self):
@@ -212,7 +181,6 @@ class State:
         return [line for lines, _ in self.moves() for line in lines]
 
     def items(self):
-        """All items in the order in which they were done."""
         return [item for _, items in self.moves() for item in items]
 
     def moves(self):
@@ -252,7 +220,7 @@ class Search:
             state = stack.pop()
             self.advance(state)
             self.farthest = list(map(max, self.farthest, state.places))
-            if all(map(self.is_done, range(self.goal.agents), state.places)):
+            if state.places == [len(items) for items in self.goal.items]:
                 return state
             if state.key() not in seen:
                 seen.add(state.key())
@@ -266,9 +234,6 @@ class Search:
         state = State(machine, [0] * self.goal.agents)
         state.trace = (None, lines, ())
         return state
-
-    def is_done(self, agent, place):
-        return place == len(self.goal.items[agent])
 
     def advance(self, state):
         """Does what leaves no choice, until nothing of that is left."""
@@ -369,7 +334,6 @@ class Search:
         return envelope.line == self.line_of(said) and content == said.content
 
     def line_of(self, said):
-        """The line in the machine. A broadcast channel has one, and logs may have one a sender."""
         return 0 if said.end in self.members else said.line
 
     # Entries that leave no choice
@@ -450,12 +414,13 @@ class Search:
             and machine.is_sendable(machine.ends[port], item.agent) for port in item.ports
         )
 
-    def hold(self, state, item):
-        """The poster of a put, and the step lines by which the agent comes to hold its line."""
+    def hold(self, state, item, places=(WITH,)):
+        """The poster of a put, and the step lines by which the agent comes to hold its line; None
+        where it can't, as a port that is at none of these places."""
         machine, end = state.machine, state.machine.ends[item.end]
         if end.kind == "port":
             port = machine.ends[end.peer]
-            is_mine = port.agent == item.agent and port.place == WITH and not port.is_closed
+            is_mine = port.agent == item.agent and port.place in places and not port.is_closed
             return str(end.peer), [] if is_mine and not end.lines[0].is_noticed else None
         return f"{item.end}/{item.said.line}", self.acquire(state, item, end)
 
@@ -502,7 +467,6 @@ class Search:
         return Move(item.agent, lines + adopting, 1, hidden)
 
     def hand(self, state, item, end):
-        """How the end arrives at the agent: a port has, and a queue is handed on."""
         if end.place == ARRIVED and end.agent == item.agent:
             return []
         if end.kind == "port" or end.place != WITH or end.agent == item.agent:
@@ -524,7 +488,6 @@ class Search:
         return self.close(state, item, end, 1)
 
     def crosses(self, state, item):
-        """Whether it is a notice at an end that is closed by now, and that nobody got."""
         is_notice = item.is_notice and item.said.key() not in self.goal.getters
         return self.may_cross and is_notice and state.machine.ends[item.end].is_closed
 
@@ -540,7 +503,6 @@ class Search:
         return dataclasses.replace(move, left_out=left_out) if move else None
 
     def close(self, state, item, end, count):
-        """The agent closes an end, after those who have to be inside there went in."""
         if end.agent != item.agent or end.place not in (WITH, ARRIVED) or end.is_closed:
             return None
         entering = self.enters(state, end, True)
@@ -592,8 +554,7 @@ class Search:
             return left if is_closing else []
         newest = end.newest()
         return [
-            it for it in left
-            if it.said.epoch == newest or (is_closing and it.said.epoch > newest)
+            it for it in left if it.said.epoch == newest or (is_closing and it.said.epoch > newest)
         ]
 
     def enter_for(self, state, end, late):
@@ -612,16 +573,9 @@ class Search:
             return [] if line.stand == end.newest() else None
         if end.kind == "member" or end.is_closed:
             return None
-        if end.kind == "port":
-            port = state.machine.ends[end.peer]
-            may_enter = port.agent == item.agent and port.place in (WITH, ARRIVED)
-            if not may_enter or line.is_noticed or port.is_closed:
-                return None
-            words, lines = str(end.peer), []
-        else:
-            words, lines = f"{end.number}/{item.said.line}", self.acquire(state, item, end)
-            if lines is None:
-                return None
+        words, lines = self.hold(state, item, (WITH, ARRIVED))
+        if lines is None:
+            return None
         return lines + [f"hop {words}"] * (end.newest() - line.stand) + [f"enter {words}"]
 
     # Broadcasts
@@ -690,7 +644,6 @@ class Search:
         yield from (move for move in self.sweeps(state) if move.hidden)
 
     def silent_close(self, state, item):
-        """A notice by whose closing no log tells."""
         end = state.machine.ends[item.end]
         if item.word != "put" or not item.is_notice or end.kind != "port":
             return
@@ -717,7 +670,6 @@ class Search:
 
     @staticmethod
     def named(machine, end):
-        """The ports in what waits at an end."""
         queues = end.queues[end.stage :]
         return [machine.ends[it] for queue in queues for one in queue.waiting for it in one.ports]
 
@@ -781,8 +733,6 @@ class Search:
 
 @dataclasses.dataclass
 class Budget:
-    """How many states may still be come to."""
-
     left: int
 
     def take(self):

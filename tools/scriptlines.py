@@ -17,9 +17,7 @@ TOO_LARGE = "TooLarge"
 MOST_NUMBER = 2**32 - 1
 MOST_BODY_BYTES = 262_144
 KINDS = ("window", "worker")
-EVENTS = (
-    "install", "activate", "extend", "settle", "fail", "returned", "discard", "terminate",
-)
+EVENTS = ("install", "activate", "extend", "settle", "fail", "returned", "discard", "terminate")
 QUEUE = "queue"
 # What a field may have: what has to be so, and what is said where it isn't.
 KIND, TEXT, URL, PAIR, AGENT, COUNT = "kind", "text", "url", "pair", "agent", "count"
@@ -51,8 +49,6 @@ MOST_LETTERS = 40
 
 @dataclasses.dataclass(frozen=True)
 class Fault:
-    """What is wrong with a line: the kind by which the program tells it, and words for people."""
-
     kind: str
     said: str
 
@@ -221,7 +217,6 @@ VALUES = {
 
 
 def type_fault(name, what, field):
-    """The fault of a field's value by itself, or None."""
     is_so, said = VALUES[what]
     if is_so(field.value):
         return None
@@ -250,7 +245,6 @@ def body_kind(value, text):
 
 
 def body_fault(field):
-    """The fault of a body, or None."""
     kind = body_kind(field.value, field.line)
     if kind == NOT_WHOLE:
         path, number = first_odd(field.value, field.written)
@@ -300,12 +294,10 @@ def plain(value):
 
 
 def compact(value):
-    """The compact text of a body that was read."""
     return json.dumps(plain(value), ensure_ascii=False, separators=(",", ":"), sort_keys=True)
 
 
 def url_fault(url):
-    """The fault of an agent's URL, or None."""
     try:
         weburl.origin_of(url)
     except weburl.OpaqueOrigin:

@@ -23,11 +23,8 @@ SHAPES = {
 DIGITS = re.compile("0|[1-9][0-9]{0,9}")
 
 
-class BadLine(Exception):
+class BadLine(hublog.BadInput):
     """A bad step line: its number, from 1, and its kind."""
-
-    def __init__(self, line, kind):
-        super().__init__(f"line {line}: {kind}")
 
 
 class NotThis(Exception):
@@ -35,7 +32,6 @@ class NotThis(Exception):
 
 
 def read(data):
-    """The step lines of a text."""
     return [checked(line, at) for at, line in enumerate(lines_of(data), 1)]
 
 

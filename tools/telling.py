@@ -6,8 +6,8 @@ import collections
 import dataclasses
 
 import hublog
+import naming
 from naming import plural, short
-from verdict import name_of
 
 MOST_LETTERS = 90
 # How many names of a line are shown on each side of a fault, and how many stops of an end's way at
@@ -107,7 +107,6 @@ class Teller:
         return self.names.agent_told(told.agent)
 
     def at(self, told):
-        """Who did it and where it stands."""
         name = self.names.agents.get(told.agent)
         where = ", ".join(filter(None, [name, self.place(told.at)]))
         return f"agent {told.agent} ({where})"
@@ -123,7 +122,6 @@ class Teller:
         return f"{finding.kind} {where}: {TITLES[finding.kind](self, finding)}"
 
     def brief(self, finding):
-        """The title without where it is."""
         return f"{finding.kind}: {TITLES[finding.kind](self, finding)}"
 
     def fault(self, finding, one, many):
@@ -133,24 +131,9 @@ class Teller:
             return f"{came} was {one}"
         return f"{plural(finding.count, 'message')}, {came} first, were {many}"
 
-    def after_close(self, finding):
-        said = "got after the end was closed"
-        return self.fault(finding, said, said)
-
-    def after_notice(self, finding):
-        said = "got after the notice of its line, which is the last"
-        return self.fault(finding, said, said)
-
     def changed(self, finding):
         said = f"got {difference(finding.told('due').said, finding.told('came').said)}"
         return self.fault(finding, said, said)
-
-    def twice(self, finding):
-        return self.fault(finding, "got twice", "got again")
-
-    def foreign(self, finding):
-        said = "got, and nobody put it there"
-        return self.fault(finding, said, "got that nobody put there")
 
     def gap(self, finding):
         parts = []
@@ -213,10 +196,9 @@ class Teller:
     # The whole finding
 
     def details(self, finding):
-        """The lines below the title."""
         rows = [(word, self.place(told.at), self.agent(told), text_of(told))
                 for word, told in self.about(finding)]
-        yield from aligned(rows)
+        yield from naming.aligned(rows)
         yield from self.around(finding)
         yield from self.alike(finding)
         yield from self.way(finding)
@@ -231,7 +213,6 @@ class Teller:
         return [(roles[role], told) for role, told in about]
 
     def around(self, finding):
-        """The names on the line about a fault, as they were accepted and got."""
         if finding.place is None:
             return
         key = finding.end, finding.line
@@ -252,7 +233,6 @@ class Teller:
     # The way of an end
 
     def way(self, finding):
-        """The way of an end that moved."""
         way = self.ways.get(finding.end)
         if way is None or not (way.sent or way.adopted):
             return
@@ -289,11 +269,18 @@ class Teller:
         return adopted[1] if is_between else None
 
 
+def of_fault(one, many=None):
+    """The title of a fault, by what is said of one message and of several."""
+    return lambda teller, finding: teller.fault(finding, one, many or one)
+
+
 TITLES = {
-    "AfterClose": Teller.after_close, "AfterNotice": Teller.after_notice,
-    "Changed": Teller.changed, "Twice": Teller.twice, "Gap": Teller.gap,
-    "Foreign": Teller.foreign, "NotOwner": Teller.not_owner, "BeforePut": Teller.before_put,
-    "PutTwice": Teller.put_twice, "Lost": Teller.lost,
+    "AfterClose": of_fault("got after the end was closed"),
+    "AfterNotice": of_fault("got after the notice of its line, which is the last"),
+    "Twice": of_fault("got twice", "got again"),
+    "Foreign": of_fault("got, and nobody put it there", "got that nobody put there"),
+    "Changed": Teller.changed, "Gap": Teller.gap, "NotOwner": Teller.not_owner,
+    "BeforePut": Teller.before_put, "PutTwice": Teller.put_twice, "Lost": Teller.lost,
 }
 
 
@@ -302,7 +289,6 @@ def text_of(told):
 
 
 def difference(put, got):
-    """How what was got differs from what was put."""
     if put.content is None:
         return "as a message, and was put as a notice"
     if got.content is None:
@@ -314,15 +300,14 @@ def difference(put, got):
 
 
 def names_of(puts):
-    """The names of messages that follow one another."""
-    first, last = name_of(puts[0]), name_of(puts[-1])
+    first, last = puts[0].name_text(), puts[-1].name_text()
     return first if len(puts) == 1 else f"{first} {'and' if len(puts) == 2 else 'to'} {last}"
 
 
 def names_about(its, place, entry_of):
     """The names of what stands about a place of a line, which has a mark."""
     first, behind = max(0, place - AROUND), place + AROUND + 1
-    names = [name_of(entry_of(it)) for it in its[first:behind]]
+    names = [entry_of(it).name_text() for it in its[first:behind]]
     if place - first < len(names):
         names[place - first] = f"[{names[place - first]}]"
     names = [".."] * (first > 0) + names + [".."] * (behind < len(its))
@@ -331,13 +316,6 @@ def names_about(its, place, entry_of):
 
 def some(parts, more, most=3):
     return ", ".join(parts[:most] + ([more] if len(parts) > most else []))
-
-
-def aligned(rows):
-    """Rows of texts as lines, each column but the last as wide as its widest text."""
-    widths = [max(map(len, column)) for column in zip(*rows)][:-1]
-    for row in rows:
-        yield "  ".join([*map(str.ljust, row, widths), row[-1]])
 
 
 def shown(stops, marked):

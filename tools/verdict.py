@@ -38,19 +38,6 @@ HAS, AWAY, ARRIVED, GONE, OTHERS = "has", "away", "arrived", "gone", "others"
 
 
 @dataclasses.dataclass(slots=True)
-class Told:
-    """An entry: its agent, its line in the input, its word, and what it says."""
-
-    agent: int
-    at: int
-    word: str
-    said: object
-
-    def name(self):
-        return name_of(self.said)
-
-
-@dataclasses.dataclass(slots=True)
 class Passed:
     """Messages that were passed over, and came equally many places later, or that came nowhere."""
 
@@ -89,9 +76,10 @@ class Finding:
 
 @dataclasses.dataclass
 class Known:
-    """What a script tells: who makes each end, which ports are peers, and which queues its agent
-    hands on."""
+    """What a script tells: its ends, who makes each, which ports are peers, and which queues its
+    agent hands on."""
 
+    ends: ends.Ends
     makers: dict
     peers: dict
     handed: frozenset
@@ -104,17 +92,10 @@ def known_of(script):
     for end, making in found.numbered():
         word, agent = making.split(" ")[:2]
         makers.update((it, int(agent)) for it in range(end, end + 1 + (word == "channel")))
-    return Known(makers, found.peers(), frozenset(hubscript.read(script).handed))
-
-
-def name_of(entry):
-    """`EP:N` of a message."""
-    return f"{entry.epoch}:{entry.number}"
+    return Known(found, makers, found.peers(), frozenset(hubscript.read(script).handed))
 
 
 class Entries:
-    """The entries of logs by their line in the input, and the lists of each line."""
-
     def __init__(self, logs):
         self.logs = [log for log in logs if log.places]
         self.starts = [log.places[0] for log in self.logs]
@@ -124,13 +105,13 @@ class Entries:
         """The entry at a line of the input."""
         log = self.logs[bisect.bisect_right(self.starts, at) - 1]
         word, said = log.entries[bisect.bisect_left(log.places, at)]
-        return Told(log.agent, at, word, said)
+        return hublog.Item(log.agent, word, said, at)
 
     @functools.cached_property
     def closings(self):
         """By end, the entry that closes it."""
         return {
-            said: Told(log.agent, at, word, said)
+            said: hublog.Item(log.agent, word, said, at)
             for log in self.logs
             for (word, said), at in zip(log.entries, log.places)
             if word == "closed"
@@ -157,7 +138,7 @@ class Entries:
                     ports = said.content[0] if said.content else ()
                     is_wanted = any(port in wanted for port in ports)
                 if is_wanted:
-                    yield Told(log.agent, at, word, said)
+                    yield hublog.Item(log.agent, word, said, at)
 
     def agents(self):
         """The entries of each agent, that may have several logs, as triples with the line."""
@@ -210,8 +191,6 @@ def faults(entries):
 
 
 class LineFaults:
-    """The faults of one line, with the entries that show each."""
-
     def __init__(self, entries, end, line, got):
         self.entries, self.end, self.line, self.got = entries, end, line, got
         self.accepted = entries.accepted.get((end, line), [])
@@ -381,9 +360,6 @@ class Owners:
             return
         self.found[key].count += 1
         self.found[key].tell("last", self.entries.told(at))
-
-
-# What was got before it was put
 
 
 class Waiting:

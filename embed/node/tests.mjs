@@ -6,6 +6,7 @@ import assert from 'node:assert/strict';
 import * as own from 'node:worker_threads';
 import { Worker, isMainThread } from 'node:worker_threads';
 import { fileURLToPath } from 'node:url';
+import { drawnValue, picked, randomOf } from '../../tests/record/drawing.mjs';
 import * as varukoni from './varukoni.mjs';
 import * as web from './web.mjs';
 
@@ -165,14 +166,6 @@ async function settled(seen) {
 
 // Random programs
 
-function randomOf(seed) {
-  let state = seed >>> 0;
-  return (below) => {
-    state = (Math.imul(state, 1664525) + 1013904223) >>> 0;
-    return Math.floor((state / 2 ** 32) * below);
-  };
-}
-
 class Program {
   constructor(seed, classes, kind) {
     this.random = randomOf(seed);
@@ -196,21 +189,7 @@ class Program {
   }
 
   pick(items) {
-    return items.length === 0 ? undefined : items[this.random(items.length)];
-  }
-
-  value(depth) {
-    switch (this.random(depth > 2 ? 4 : 6)) {
-      case 0: return null;
-      case 1: return this.random(2) === 0;
-      case 2: return this.random(2_000_000) - 1_000_000;
-      case 3: return 'a"\\\u00e9\u{1f600}\n'.slice(0, this.random(8)).toWellFormed();
-      case 4: return Array.from({ length: this.random(4) }, () => this.value(depth + 1));
-      default: {
-        const member = (_, at) => [`k${at}`, this.value(depth + 1)];
-        return Object.fromEntries(Array.from({ length: this.random(3) }, member));
-      }
-    }
+    return picked(this.random, items);
   }
 
   channel() {
@@ -246,7 +225,7 @@ class Program {
     const drawn = this.numbers().filter((each) => may(each) && this.random(8) === 0);
     const listed = this.gone.has(target) ? [] : drawn.slice(0, 16);
     const ports = listed.map((each) => this.held.get(each).port);
-    this.held.get(number).port.postMessage({ body: this.value(0), listed }, ports);
+    this.held.get(number).port.postMessage({ body: drawnValue(this.random), listed }, ports);
     for (const each of listed) {
       this.held.delete(each);
       this.waitingAt.set(each, target);
@@ -285,7 +264,7 @@ class Program {
     if (!channel) return;
     this.casts += 1;
     try {
-      channel.postMessage(this.value(0));
+      channel.postMessage(drawnValue(this.random));
     } catch (error) {
       this.seen.push([error.name]);
     }

@@ -43,8 +43,6 @@ class Lost(MemoryError):
 
 
 class _Raw(ctypes.Structure):
-    """`struct varukoni_hub`."""
-
     _fields_ = [("at", ctypes.c_void_p), ("is_open", ctypes.c_bool)]
 
 
@@ -112,7 +110,6 @@ class Hub:
             raise MemoryError("no memory for a hub")
 
     def _lend(self, size):
-        """Makes the room for what is said."""
         self._room = ctypes.create_string_buffer(size)
         self._size = size
         self._lent = (self._room, size, ctypes.byref(self._length))

@@ -29,8 +29,6 @@ class Held:
 
 
 class Agent:
-    """An agent. `run` is what its thread does."""
-
     def __init__(self, number, script, hub):
         self.number, self.hub = number, hub
         self.actions = script.actions[number]

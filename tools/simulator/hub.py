@@ -22,8 +22,6 @@ BUSY = "busy"
 
 
 class Envelope:
-    """A message or a notice where it was accepted."""
-
     __slots__ = ("name", "body", "ports", "is_notice")
 
     def __init__(self, name, body, ports, is_notice):
@@ -68,8 +66,6 @@ class End:
 
 
 class Hub:
-    """What the agents share."""
-
     def __init__(self, script):
         self.changes = 0
         self.ends = [End(at, QUEUES[agent.kind]) for at, agent in enumerate(script.agents)]
@@ -88,6 +84,15 @@ class Hub:
 
     def change(self):
         self.changes += 1
+
+    def until(self, holds):
+        """Waits until that holds. Each look is a step."""
+        while True:
+            seen = self.changes
+            yield
+            if holds():
+                return
+            yield seen
 
     def post(self, poster, body, ports, is_notice=False):
         """Posts. Gives Posted, CLOSED or MOVING."""
@@ -141,7 +146,6 @@ class Hub:
         return None
 
     def close(self, end):
-        """Closes an end, a port with its notice. Gives the name of the notice, or None."""
         answer = None
         if end.kind == "port":
             answer = yield from self.post(end.poster, "null", (), True)
@@ -153,19 +157,13 @@ class Hub:
     def sweep(self, end):
         """Empties a closed end, once nobody is inside. Gives what was discarded."""
         queues = end.queues[end.stage :]
-        while True:
-            seen = self.changes
-            yield
-            if not any(queue.inside for queue in queues):
-                break
-            yield seen
+        yield from self.until(lambda: not any(queue.inside for queue in queues))
         discarded = [envelope for queue in queues for envelope in queue.waiting]
         for queue in queues:
             queue.waiting.clear()
         return discarded
 
     def arrive(self, number):
-        """Takes a port out of flight, if it is there."""
         if number not in self.flight:
             return None
         self.flight.discard(number)
@@ -178,12 +176,7 @@ class Hub:
         return poster
 
     def lock_roster(self):
-        while True:
-            seen = self.changes
-            yield
-            if not self.is_roster_locked:
-                break
-            yield seen
+        yield from self.until(lambda: not self.is_roster_locked)
         self.is_roster_locked = True
 
     def unlock_roster(self):

@@ -57,7 +57,6 @@ class Schedule:
 
 
 def run_agents(agents, hub, seed):
-    """Lets the agents take steps until all have ended."""
     schedule = Schedule(seed, len(agents))
     threads = [agent.run() for agent in agents]
     # What an agent that waits has seen of changes; -1 where it doesn't wait.
@@ -93,13 +92,11 @@ def verdict_of(logs):
 
 
 def hub_of(script):
-    """A hub, and the agents of a script on it."""
     hub = Hub(script)
     return hub, [Agent(number, script, hub) for number in range(len(script.agents))]
 
 
 def simulate(script, seed):
-    """What a run of the script prints, and its status."""
     hub, agents = hub_of(script)
     run_agents(agents, hub, seed)
     text = logs_text(agents)
@@ -110,6 +107,5 @@ def simulate(script, seed):
 
 
 def check(data):
-    """What a check of the logs prints, and its status."""
     verdict, status = hublog.answer(data)
     return f"{verdict}\n", status
