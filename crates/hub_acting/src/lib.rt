@@ -5,11 +5,7 @@
 //! once for whoever acts.
 #![tactic(auto)]
 
-mod acted;
 mod acting;
-mod actor;
 
-pub use acted::Acted;
-pub use acting::act_all;
-pub use actor::Actor;
+pub use acting::{Acted, Actor, act_all};
 pub use hub_envelope::OutOfMemory;

@@ -8,15 +8,15 @@ use Rattle.hub_envelope.specs.declared.ids.EndId.{EndId}
 use Rattle.hub_envelope.specs.declared.posted.Posted.{Posted}
 use Rattle.hub_broadcast.specs.Members.{SubscriptionSeat}
 use Rattle.hub_clients.specs.Handing.{taker_of}
-use Rattle.hub_clients.specs.declared.handed_queue.HandedQueue.{HandedQueue}
-use Rattle.hub_clients.specs.declared.handed_queue.HandedQueue.TheVariants as handed
+use Rattle.hub_clients.specs.declared.handed.HandedQueue.{HandedQueue}
+use Rattle.hub_clients.specs.declared.handed.HandedQueue.TheVariants as handed
 use Rattle.hub_logging.specs.Notes.{Notes, delivered}
 use Rattle.hub_loop.specs.Adopting.{HoldsMore, IsFetched, IsHeldAs, Stored}
 use Rattle.hub_loop.specs.Closing.{ClosesEnd}
 use Rattle.hub_loop.specs.Posting.{PostsFromPort, SendsOverLine}
-use Rattle.hub_loop.specs.declared.closed_end.ClosedEnd.{ClosedEnd}
-use Rattle.hub_loop.specs.declared.turn.Turn.{Turn}
-use Rattle.hub_loop.specs.declared.turn.Turn.TheVariants.{Delivered, Idle, Ending}
+use Rattle.hub_loop.specs.declared.closed.ClosedEnd.{ClosedEnd}
+use Rattle.hub_loop.specs.declared.handler.Turn.{Turn}
+use Rattle.hub_loop.specs.declared.handler.Turn.TheVariants.{Delivered, Idle, Ending}
 use Rattle.hub_queue.specs.Taking.{TakerSeat}
 use Rattle.hub_loop.specs.Ending.{is_held}
 use Rattle.hub_loop.specs.Holding.{end_held}
@@ -25,8 +25,8 @@ use Rattle.hub_loop.specs.declared.held.Held.{Held}
 use Rattle.hub_loop.specs.declared.held.Held.TheVariants as held
 use Rattle.hub_ports.specs.Seats.{PortSeat, ends_of}
 use Rattle.hub_ports.specs.Sending.{IsSent}
-use Rattle.hub_ports.specs.declared.port_error.PortError.{PortError}
-use Rattle.hub_ports.specs.declared.port_error.PortError.TheVariants as error
+use Rattle.hub_ports.specs.declared.error.PortError.{PortError}
+use Rattle.hub_ports.specs.declared.error.PortError.TheVariants as error
 use Rattle.hub_queue.specs.Standing.{StandSeat}
 use Rattle.hub_script.specs.declared.action.ActionKind.{ActionKind}
 use Rattle.hub_script.specs.declared.action.ActionKind.TheVariants.{Post, Send, Cast, Start, Loaded, Close, Wait, Receive, Order, Event, Hand, Fetch}

@@ -16,13 +16,13 @@ use Rattle.hub_loop.specs.Turning.{IsTurn}
 use Rattle.hub_loop.specs.declared.held.Held.{Held}
 use Rattle.hub_loop.specs.declared.held.Held.TheVariants.{Port, Client, Worker, Member, Line}
 use Rattle.hub_loop.specs.declared.loop_error.LoopError.{LoopError}
-use Rattle.hub_loop.specs.declared.turn.Turn.{Turn}
-use Rattle.hub_loop.specs.declared.turn.Turn.TheVariants.{Delivered, Idle, Ending}
+use Rattle.hub_loop.specs.declared.handler.Turn.{Turn}
+use Rattle.hub_loop.specs.declared.handler.Turn.TheVariants.{Delivered, Idle, Ending}
 use Rattle.hub_ports.specs.Seats.{PortSeat, end_of, ends_of}
 use Rattle.hub_queue.specs.Counting.{Count}
 use Rattle.hub_queue.specs.Taking.{IsTaken, TakerSeat}
-use Rattle.hub_queue.specs.declared.took.Took.{Took}
-use Rattle.hub_queue.specs.declared.took.Took.TheVariants.{Got, Empty, Busy, Again, Disabled, Closed}
+use Rattle.hub_queue.specs.declared.taker.Took.{Took}
+use Rattle.hub_queue.specs.declared.taker.Took.TheVariants.{Got, Empty, Busy, Again, Disabled, Closed}
 use Rattle.hub_agent.specs.Agents.{AgentState}
 use Rattle.hub_agent.specs.Owning.{TurnBrings, times}
 use Rattle.hub_agent.proofs.Listed.{found_times, listed_once, split_times, times_cons, times_one}

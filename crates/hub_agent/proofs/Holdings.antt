@@ -2,7 +2,7 @@
 use Rattle.std.proofs.Common.{◌≡◌, ◌∙◌, Bool, false, List, Option, Result, Ok, Err, OnOk, ap, inr, subst}
 use Rattle.slab.specs.Slab.{Slab}
 use Rattle.hub_envelope.specs.declared.ids.EndId.{EndId}
-use Rattle.hub_loop.specs.declared.closed_end.ClosedEnd.{ClosedEnd}
+use Rattle.hub_loop.specs.declared.closed.ClosedEnd.{ClosedEnd}
 use Rattle.hub_loop.specs.declared.held.Held.{Held}
 use Rattle.hub_broadcast.specs.Members.{SubscriptionSeat}
 use Rattle.hub_loop.specs.Closing.{ClosesEnd, left_by}

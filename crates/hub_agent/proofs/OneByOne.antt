@@ -3,7 +3,7 @@ use Rattle.std.proofs.Common.{◌≡◌, ◌≢◌, ℕ, length, take, List, [],
 use Rattle.std.proofs.lemmas.List.Elements.{All-nil}
 use Rattle.hub_envelope.specs.declared.posted.Posted.{Posted}
 use Rattle.hub_acting.specs.Doing.{DidAll, HasActed, IsStopped}
-use Rattle.hub_acting.specs.declared.acted.Acted.{Acted}
+use Rattle.hub_acting.specs.declared.acting.Acted.{Acted}
 use Rattle.hub_script.specs.declared.action.ActionKind.{ActionKind}
 use Rattle.hub_script.specs.declared.action.ActionKind.TheVariants.{Post, Send, Cast, Start, Loaded, Close, Wait, Receive, Order, Event, Hand, Fetch}
 use Rattle.hub_trace.specs.declared.log_entry.LogEntry.{LogEntry}

@@ -14,7 +14,7 @@ use Rattle.hub_loop.specs.Looking.{HoldsNoEnd, HoldsNoLine}
 use Rattle.hub_loop.specs.declared.held.Held.{Held}
 use Rattle.hub_loop.specs.declared.held.Held.TheVariants as held
 use Rattle.hub_ports.specs.Seats.{PortSeat, end_of, ends_of}
-use Rattle.hub_ports.specs.declared.port_error.PortError.{PortError}
+use Rattle.hub_ports.specs.declared.error.PortError.{PortError}
 use Rattle.hub_ports.specs.Sending.{IsSent}
 use Rattle.hub_queue.specs.Standing.{StandSeat}
 use Rattle.hub_script.specs.declared.action.ActionKind.TheVariants.{Post, Send}

@@ -6,8 +6,8 @@ use Rattle.hub_logging.specs.Notes.{IsLoggable, Notes, notes_of}
 use Rattle.hub_loop.specs.States.{DeliveryState, HoldingState}
 use Rattle.hub_loop.specs.Turning.{IsTurn}
 use Rattle.hub_loop.specs.declared.loop_error.LoopError.{LoopError}
-use Rattle.hub_loop.specs.declared.turn.Turn.{Turn}
-use Rattle.hub_loop.specs.declared.turn.Turn.TheVariants.{Delivered, Idle, Ending}
+use Rattle.hub_loop.specs.declared.handler.Turn.{Turn}
+use Rattle.hub_loop.specs.declared.handler.Turn.TheVariants.{Delivered, Idle, Ending}
 use Rattle.hub_queue.specs.Counting.{Count}
 use Rattle.hub_agent.specs.Entries.{TurnLeaves}
 

@@ -8,15 +8,15 @@ use Rattle.hub_envelope.specs.declared.envelope.Envelope.{Envelope}
 use Rattle.hub_envelope.specs.declared.ids.EndId.{EndId}
 use Rattle.hub_envelope.specs.declared.posted.Posted.{Posted}
 use Rattle.hub_logging.specs.Notes.{Notes, delivered, not_missing, notes_of}
-use Rattle.hub_loop.specs.declared.turn.Turn.{Turn}
-use Rattle.hub_loop.specs.declared.turn.Turn.TheVariants.{Delivered, Idle, Ending}
+use Rattle.hub_loop.specs.declared.handler.Turn.{Turn}
+use Rattle.hub_loop.specs.declared.handler.Turn.TheVariants.{Delivered, Idle, Ending}
 use Rattle.hub_trace.specs.declared.log_entry.LogEntry.{LogEntry}
 use Rattle.hub_trace.specs.declared.log_entry.LogEntry.TheVariants.{Got}
 use Rattle.hub_trace.specs.Accepted.{message_at, notice_at}
 use Rattle.hub_trace.specs.PortList.{has_end}
 use Rattle.hub_agent.specs.Entries.{AreAdoptedOf, AreAdoptions, AreTurns, AreTurnsLogged, IsComeLogged, IsTurnLogged, IsWaitLogged, TurnLeaves, Writes, log_and, ports_in}
-use Rattle.hub_agent.specs.declared.awaited.Awaited.{Awaited}
-use Rattle.hub_agent.specs.declared.awaited.Awaited.TheVariants.{Messages, Port, Queue}
+use Rattle.hub_agent.specs.declared.acting.Awaited.{Awaited}
+use Rattle.hub_agent.specs.declared.acting.Awaited.TheVariants.{Messages, Port, Queue}
 use Rattle.hub_agent.proofs.Writing.{log_and_both, writes_both, writes_same}
 
 -- an agent has written a turn

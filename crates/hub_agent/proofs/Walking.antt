@@ -7,24 +7,24 @@ use Rattle.hub_broadcast.specs.Casting.{AreDestinations}
 use Rattle.hub_broadcast.specs.Members.{MemberSeat}
 use Rattle.hub_broadcast.specs.Rising.{RiseBetween}
 use Rattle.hub_broadcast.proofs.Ranking.{IsToldApart, lower}
-use Rattle.hub_broadcast.specs.declared.cast_outcome.CastOutcome.{CastOutcome}
-use Rattle.hub_broadcast.specs.declared.cast_outcome.CastOutcome.TheVariants.{Accepted, Closed, Moving, OutOfMemory}
+use Rattle.hub_broadcast.specs.declared.casting.CastOutcome.{CastOutcome}
+use Rattle.hub_broadcast.specs.declared.casting.CastOutcome.TheVariants.{Accepted, Closed, Moving, OutOfMemory}
 use Rattle.hub_envelope.specs.declared.ids.EndId.{EndId}
 use Rattle.hub_logging.specs.Notes.{Notes}
 use Rattle.hub_envelope.specs.declared.ids.AgentId.{AgentId}
 use Rattle.hub_envelope.specs.declared.limits.TheConstants.{MAX_ENDS}
 use Rattle.hub_envelope.specs.declared.posted.Posted.{Posted}
-use Rattle.hub_loop.specs.declared.closed_port.ClosedPort.{ClosedPort}
+use Rattle.hub_loop.specs.declared.closed.ClosedPort.{ClosedPort}
 use Rattle.hub_loop.specs.Looking.{Holds}
 use Rattle.hub_loop.specs.declared.held.Held.TheVariants.{Member}
 use Rattle.hub_ports.specs.Closing.{AreDoomed}
 use Rattle.hub_ports.specs.Seats.{PortSeat, ends_of}
 use Rattle.hub_ports.specs.Sending.{IsSent}
-use Rattle.hub_ports.specs.declared.closings.Closing.{Closing}
-use Rattle.hub_ports.specs.declared.noticed.Noticed.{Noticed}
-use Rattle.hub_ports.specs.declared.noticed.Noticed.TheVariants as notice
-use Rattle.hub_ports.specs.declared.port_error.PortError.{PortError}
-use Rattle.hub_ports.specs.declared.port_error.PortError.TheVariants as error
+use Rattle.hub_ports.specs.declared.closing.Closing.{Closing}
+use Rattle.hub_ports.specs.declared.closing.Noticed.{Noticed}
+use Rattle.hub_ports.specs.declared.closing.Noticed.TheVariants as notice
+use Rattle.hub_ports.specs.declared.error.PortError.{PortError}
+use Rattle.hub_ports.specs.declared.error.PortError.TheVariants as error
 use Rattle.hub_queue.specs.Standing.{StandSeat}
 use Rattle.hub_trace.specs.Accepted.{message_at}
 use Rattle.hub_trace.specs.declared.log_entry.LogEntry.{LogEntry}

@@ -5,7 +5,7 @@ use Rattle.hub_script.specs.Contents.{Contents, actions}
 use Rattle.hub_script.specs.declared.action.ActionKind.{ActionKind}
 use Rattle.hub_script.specs.declared.action.ActionKind.TheVariants.{Post, Send, Cast}
 use Rattle.hub_acting.specs.Doing.{actions_of}
-use Rattle.hub_acting.specs.declared.acted.Acted.{Acted}
+use Rattle.hub_acting.specs.declared.acting.Acted.{Acted}
 use Rattle.hub_trace.specs.Accepted.{AgentLog}
 use Rattle.hub_logging.specs.Notes.{Notes}
 use Rattle.hub_trace.specs.declared.log_entry.LogEntry.{LogEntry}

@@ -17,7 +17,7 @@ use Rattle.hub_loop.specs.Starting.{StartsClient, StartsPort}
 use Rattle.hub_loop.specs.States.{DeliveryState}
 use Rattle.hub_ports.specs.Seats.{PortSeat, end_of}
 use Rattle.hub_agent.specs.Casting.{HasCast}
-use Rattle.hub_agent.specs.declared.peer.Peer.{Peer}
+use Rattle.hub_agent.specs.declared.shared.Peer.{Peer}
 use Rattle.hub_agent.specs.declared.posting.Way.TheVariants as way
 use Rattle.hub_agent.specs.Posting.{PostsOver, SendsTo}
 use Rattle.hub_script.specs.declared.action.ActionKind.{ActionKind}

@@ -3,7 +3,7 @@ use Rattle.std.specs.Prelude.{◌≡◌, ◌≢◌, ◌⊎◌, ℕ, All, List, [
 use Rattle.hub_broadcast.specs.Casting.{IsBroadcast, cast_draft}
 use Rattle.hub_locked.specs.Lending.{IsDoneIn}
 use Rattle.hub_broadcast.specs.Members.{MemberSeat, SubscriptionSeat}
-use Rattle.hub_broadcast.specs.declared.cast_outcome.CastOutcome.{CastOutcome}
+use Rattle.hub_broadcast.specs.declared.casting.CastOutcome.{CastOutcome}
 use Rattle.hub_envelope.specs.declared.ids.EndId.{EndId}
 use Rattle.hub_logging.specs.Notes.{Notes}
 use Rattle.hub_agent.specs.Entries.{Writes, cast_entries}

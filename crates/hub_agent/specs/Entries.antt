@@ -1,21 +1,21 @@
 -- What the log of an agent says of an action, of a turn, and of the end of its loop.
 use Rattle.std.specs.Prelude.{◌≡◌, ◌≢◌, ◌⊎◌, ℕ, All, Bool, true, false, List, [], ◌∷◌, ◌++◌, map, Option, Some, None, Result, Ok, Err}
 use Rattle.std.specs.List.{flat_map}
-use Rattle.hub_broadcast.specs.declared.cast_outcome.CastOutcome.{CastOutcome}
-use Rattle.hub_broadcast.specs.declared.cast_outcome.CastOutcome.TheVariants.{Accepted}
+use Rattle.hub_broadcast.specs.declared.casting.CastOutcome.{CastOutcome}
+use Rattle.hub_broadcast.specs.declared.casting.CastOutcome.TheVariants.{Accepted}
 use Rattle.hub_broadcast.specs.Rising.{Rise}
 use Rattle.hub_envelope.specs.declared.envelope.Envelope.{Envelope}
 use Rattle.hub_envelope.specs.declared.ids.EndId.{EndId}
 use Rattle.hub_envelope.specs.declared.posted.Posted.{Posted}
 use Rattle.hub_logging.specs.Notes.{Notes, notes_of}
-use Rattle.hub_loop.specs.declared.closed_port.ClosedPort.{ClosedPort}
-use Rattle.hub_loop.specs.declared.turn.Turn.{Turn}
-use Rattle.hub_loop.specs.declared.turn.Turn.TheVariants.{Delivered, Idle, Ending}
-use Rattle.hub_ports.specs.declared.closings.Closing.{Closing}
-use Rattle.hub_ports.specs.declared.noticed.Noticed.{Noticed}
-use Rattle.hub_ports.specs.declared.port_error.PortError.{PortError}
-use Rattle.hub_ports.specs.declared.port_error.PortError.TheVariants.{Doomed}
-use Rattle.hub_ports.specs.declared.noticed.Noticed.TheVariants as notice
+use Rattle.hub_loop.specs.declared.closed.ClosedPort.{ClosedPort}
+use Rattle.hub_loop.specs.declared.handler.Turn.{Turn}
+use Rattle.hub_loop.specs.declared.handler.Turn.TheVariants.{Delivered, Idle, Ending}
+use Rattle.hub_ports.specs.declared.closing.Closing.{Closing}
+use Rattle.hub_ports.specs.declared.closing.Noticed.{Noticed}
+use Rattle.hub_ports.specs.declared.error.PortError.{PortError}
+use Rattle.hub_ports.specs.declared.error.PortError.TheVariants.{Doomed}
+use Rattle.hub_ports.specs.declared.closing.Noticed.TheVariants as notice
 use Rattle.hub_script.specs.declared.action.ActionKind.{ActionKind}
 use Rattle.hub_script.specs.declared.action.ActionKind.TheVariants.{Post, Send, Cast, Start, Loaded, Close, Wait, Receive, Order, Event, Hand, Fetch}
 use Rattle.hub_trace.specs.Accepted.{AgentLog, message_at, notice_at}
@@ -24,8 +24,8 @@ use Rattle.hub_trace.specs.declared.content.Content.TheVariants as content
 use Rattle.hub_trace.specs.declared.log_entry.Delivery.{Delivery}
 use Rattle.hub_trace.specs.declared.log_entry.LogEntry.{LogEntry}
 use Rattle.hub_trace.specs.declared.log_entry.LogEntry.TheVariants.{Put, Got, Adopted, Closed}
-use Rattle.hub_agent.specs.declared.awaited.Awaited.{Awaited}
-use Rattle.hub_agent.specs.declared.awaited.Awaited.TheVariants.{Messages, Port, Queue}
+use Rattle.hub_agent.specs.declared.acting.Awaited.{Awaited}
+use Rattle.hub_agent.specs.declared.acting.Awaited.TheVariants.{Messages, Port, Queue}
 
 -- the log with these entries behind the others
 abbrev pub log_and : AgentLog → List LogEntry → AgentLog

@@ -13,8 +13,8 @@ use Rattle.hub_loop.specs.Posting.{PostsFromPort, SendsOverLine}
 use Rattle.hub_loop.specs.declared.held.Held.{Held}
 use Rattle.hub_loop.specs.declared.held.Held.TheVariants as held
 use Rattle.hub_ports.specs.Seats.{PortSeat, ends_of}
-use Rattle.hub_ports.specs.declared.port_error.PortError.{PortError}
-use Rattle.hub_ports.specs.declared.port_error.PortError.TheVariants as error
+use Rattle.hub_ports.specs.declared.error.PortError.{PortError}
+use Rattle.hub_ports.specs.declared.error.PortError.TheVariants as error
 use Rattle.hub_queue.specs.Standing.{StandSeat}
 use Rattle.hub_agent.specs.declared.posting.Way.{Way}
 use Rattle.hub_agent.specs.declared.posting.Way.TheVariants as way

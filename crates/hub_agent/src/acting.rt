@@ -5,27 +5,17 @@ ghost use Rattle.hub_acting.specs.Doing.{actions_of};
 ghost use Rattle.hub_life.specs.Course.{after as lived};
 ghost use Rattle.hub_script.specs.Contents.{actions};
 ghost use Rattle.hub_script.specs.declared.action.ActionKind.TheVariants.{Hand};
-ghost use Rattle.hub_agent.specs.Agents.{
-  Changes,
-  ClosesHeld,
-  KeepsButEnds,
-  KeepsButClosings,
-  StartsEnd,
-  ordered,
-  with_peer,
-  woken,
-};
+ghost use Rattle.hub_agent.specs.Agents.{Changes, ClosesHeld, KeepsButEnds, KeepsButClosings};
+ghost use Rattle.hub_agent.specs.Agents.{StartsEnd, ordered, with_peer, woken};
 ghost use Rattle.hub_agent.specs.Entries.{IsCloseLogged, Writes};
 ghost use Rattle.hub_agent.specs.Owning.{Accounts, HoldsNoMore};
 ghost use Rattle.hub_agent.specs.Acting.{ActsFirst};
 ghost use Rattle.hub_trace.specs.declared.log_entry.LogEntry.{LogEntry};
 
 use crate::agent::Agent;
-use crate::awaited::Awaited;
 use crate::logging::log_closed_end;
-use crate::peer::{Peer, order_all};
 use crate::posting::Way;
-use crate::shared::Shared;
+use crate::shared::{Peer, Shared, order_all};
 use hub_acting::{Acted, Actor, act_all};
 use hub_broadcast::Roster;
 use hub_clients::{Directory, HandError};
@@ -35,6 +25,17 @@ use hub_locked::Lends;
 use hub_loop::{Checkpoint, Held};
 use hub_script::{ActionKind, Script};
 use std::sync::Wait;
+
+/// What an agent takes turns for.
+#[derive(Clone, Copy)]
+pub(crate) enum Awaited {
+    /// That so many messages are delivered after the first so many.
+    Messages { after: u64, count: u32 },
+    /// That it holds the port.
+    Port(EndId),
+    /// That it holds the queue, which is handed to it.
+    Queue(EndId),
+}
 
 // The error of a hand that was refused for want of memory.
 fn want_of(error: HandError) -> Option<OutOfMemory> {

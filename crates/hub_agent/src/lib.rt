@@ -8,12 +8,10 @@
 
 mod acting;
 mod agent;
-mod awaited;
 mod casting;
 mod ending;
 mod logging;
 mod opening;
-mod peer;
 mod posting;
 mod shared;
 
@@ -21,5 +19,4 @@ pub use agent::{Agent, AgentRun};
 pub use hub_acting::Acted;
 pub use hub_envelope::OutOfMemory;
 pub use opening::Seat;
-pub use peer::Peer;
-pub use shared::Shared;
+pub use shared::{Peer, Shared};

@@ -5,8 +5,7 @@ ghost use Rattle.hub_agent.specs.Agents.{KeepsButEnds};
 ghost use Rattle.hub_loop.specs.Adopting.{HoldsMore};
 
 use crate::agent::Agent;
-use crate::peer::Peer;
-use crate::shared::Shared;
+use crate::shared::{Peer, Shared};
 use hub_broadcast::Roster;
 use hub_envelope::{AgentId, OutOfMemory};
 use hub_life::{Life, Order};

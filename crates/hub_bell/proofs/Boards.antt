@@ -3,8 +3,8 @@ use Rattle.std.proofs.Common.{ℕ, List, [], ◌∷◌, ◌++◌, refl, bit_or}
 use Rattle.std.specs.Prelude.{slice_index}
 use mathlib.Core.Option.{none}
 use Rattle.atomic_table.specs.Table.{State, Me, step, keeps, Allows}
-use Rattle.hub_bell.specs.declared.steps.BoardStep.{BoardStep}
-use Rattle.hub_bell.specs.declared.steps.BoardStep.TheVariants.{Looked, Set, Took, Stored}
+use Rattle.hub_bell.specs.declared.board.BoardStep.{BoardStep}
+use Rattle.hub_bell.specs.declared.board.BoardStep.TheVariants.{Looked, Set, Took, Stored}
 use Rattle.hub_bell.specs.BoardSteps.{Looks, Sets, Takes, Stores}
 
 abbrev Own : Type 0

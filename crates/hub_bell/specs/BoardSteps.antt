@@ -1,8 +1,8 @@
 -- What each step on a board's word tells the seat that makes it.
 use Rattle.std.specs.Prelude.{◌≡◌, ℕ, List, [], ◌∷◌, ◌++◌}
 use Rattle.atomic_table.specs.Table.{Me, Step}
-use Rattle.hub_bell.specs.declared.steps.BoardStep.{BoardStep}
-use Rattle.hub_bell.specs.declared.steps.BoardStep.TheVariants as step
+use Rattle.hub_bell.specs.declared.board.BoardStep.{BoardStep}
+use Rattle.hub_bell.specs.declared.board.BoardStep.TheVariants as step
 
 abbrev pub Tells : Type 1
 Tells = Step (Unit {0}) → Me (Unit {0}) (List BoardStep) → ℕ → Me (Unit {0}) (List BoardStep) → Type 0

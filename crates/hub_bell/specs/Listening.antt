@@ -1,7 +1,7 @@
 -- What a listener does.
 use Rattle.std.specs.Prelude.{◌≡◌, ℕ, ◌+◌, ◌==◌, List, [], ◌∷◌, ◌++◌, if◌then◌else◌}
-use Rattle.hub_bell.specs.declared.steps.BoardStep.{BoardStep}
-use Rattle.hub_bell.specs.declared.steps.BoardStep.TheVariants.{Looked, Took, Stored}
+use Rattle.hub_bell.specs.declared.board.BoardStep.{BoardStep}
+use Rattle.hub_bell.specs.declared.board.BoardStep.TheVariants.{Looked, Took, Stored}
 use Rattle.hub_bell.specs.Ready.{names_word, asleep_word}
 use Rattle.hub_bell.specs.Seats.{Done}
 

@@ -1,8 +1,8 @@
 -- What a ring does.
 use Rattle.std.specs.Prelude.{◌≡◌, ℕ, ◌+◌, ◌==◌, ◌&&◌, not, List, [], ◌∷◌, ◌++◌, if◌then◌else◌}
 use Rattle.hub_envelope.specs.declared.ids.EndId.{EndId}
-use Rattle.hub_bell.specs.declared.steps.BoardStep.{BoardStep}
-use Rattle.hub_bell.specs.declared.steps.BoardStep.TheVariants.{Looked, Set}
+use Rattle.hub_bell.specs.declared.board.BoardStep.{BoardStep}
+use Rattle.hub_bell.specs.declared.board.BoardStep.TheVariants.{Looked, Set}
 use Rattle.hub_bell.specs.Ready.{names_word, asleep_word, bits_word, end_mask, name_mask, is_set}
 use Rattle.hub_bell.specs.Seats.{Done}
 

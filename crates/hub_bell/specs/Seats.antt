@@ -1,8 +1,8 @@
 -- A listener and a bell, as callers see them.
 use Rattle.std.specs.Prelude.{ℕ, List, []}
 use Rattle.atomic_table.specs.Seated.{TableId}
-use Rattle.hub_bell.specs.declared.steps.BoardStep.{BoardStep}
-use Rattle.hub_bell.specs.declared.waking.WakeView.{WakeView}
+use Rattle.hub_bell.specs.declared.board.BoardStep.{BoardStep}
+use Rattle.hub_bell.specs.declared.bell.WakeView.{WakeView}
 
 -- what a listener or a bell has done: its steps at the board, in order, how often it has slept, and how often it has woken the listener
 pub record Done : Type 0 where

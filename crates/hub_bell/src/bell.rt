@@ -1,13 +1,19 @@
-ghost use Rattle.std.specs.Prelude.{◌≡◌, ◌+◌, ◌<◌, ◌==◌, ℕ, [], ◌∷◌, ◌++◌, not};
+//! What a listener and its bells know of how they sleep and wake.
+
+ghost use Rattle.std.specs.Prelude.{◌≡◌, ◌+◌, ◌<◌, ◌==◌, ℕ, [], ◌∷◌, ◌++◌, not, IfOk, List};
 ghost use Rattle.std.specs.Arc.{arc_value};
 
 use crate::OutOfMemory;
-use crate::bits::{ASLEEP, NAMES, bits_word_of, end_mask_of, has_bit, name_mask_of};
-use crate::board::{Board, BoardSeat, Fresh, Look, SetBits};
-use crate::waking::{Wake, WakePass};
+use crate::board::{
+    ASLEEP, Board, BoardSeat, BoardWords, FIRST_BITS, Fresh, Look, NAMES, SetBits, Store, Take,
+    WORDS, bits_word_of, end_mask_of, has_bit, name_mask_of,
+};
+use crossbeam_utils::rule::{Outcome, Protocol};
+use crossbeam_utils::sync::parker::{Pass, RuledParker, RuledUnparker};
 use hub_envelope::EndId;
+use std::alloc::Global;
 use std::marker::Model;
-use std::sync::Arc;
+use std::sync::{Arc, Wait};
 
 /// What wakes the loop that takes: whoever has posted at an enabled end rings it.
 #[derive(Drop)]
@@ -31,7 +37,7 @@ impl Model for Bell {
 }
 
 impl Bell {
-    ghost use Rattle.hub_bell.specs.declared.steps.BoardStep.TheVariants.{Looked};
+    ghost use Rattle.hub_bell.specs.declared.board.BoardStep.TheVariants.{Looked};
     ghost use Rattle.hub_bell.specs.Ready.{asleep_word, is_set};
     ghost use Rattle.hub_bell.specs.Ringing.{IsRung, marking};
     ghost use Rattle.hub_bell.specs.Seats.{new_at};
@@ -113,5 +119,155 @@ impl Clone for Bell {
     /// One more bell of the same loop, which has done nothing yet.
     fn clone(&self) -> Result<Bell, OutOfMemory> {
         Ok(Bell::at(Arc::try_clone(&self.board)?))
+    }
+}
+
+/// What one of them has done. It stands in proofs alone: no value of it is made.
+pub struct WakeView {
+    /// How often it has slept.
+    pub sleeps: u64,
+    /// How often it has woken the listener.
+    pub wakes: u64,
+}
+
+/// Whoever sleeps or wakes counts for itself alone.
+pub struct Counted;
+
+impl Protocol<bool, WakeView> for Counted {
+    ghost use Rattle.hub_bell.specs.Seats.{rested};
+
+    ghost holds = { λ _ _. Unit {0} };
+
+    ghost first = { rested };
+}
+
+pub(crate) type WakePass = Pass<WakeView>;
+
+pub(crate) type Sleeper = RuledParker<WakeView, Counted>;
+
+pub(crate) type Waker = RuledUnparker<WakeView, Counted>;
+
+/// The listener has slept.
+pub(crate) struct Sleep;
+
+impl Outcome<bool, WakeView> for Sleep {
+    ghost use Rattle.std.specs.Prelude.{◌≡◌, ◌+◌};
+
+    ghost then = { λ before _ _ after. after ≡ record before { sleeps = before.sleeps + 1 } };
+}
+
+/// The listener was woken.
+pub(crate) struct Wake;
+
+impl Outcome<bool, WakeView> for Wake {
+    ghost use Rattle.std.specs.Prelude.{◌≡◌, ◌+◌};
+
+    ghost then = { λ before _ _ after. after ≡ record before { wakes = before.wakes + 1 } };
+}
+
+/// A loop's end of its bells: it finds the ends that were rung, and sleeps until the next ring.
+///
+/// ```rust
+/// let (mut listener, mut bell) = Listener::open(alloc)?;
+/// bell.ring(EndId(7));
+/// assert_eq!(rt; listener.take_names(), 1);
+/// assert_eq!(rt; listener.take_bits(0), 1 << 7);
+/// ```
+#[derive(Drop)]
+pub struct Listener {
+    sleeper: Sleeper,
+    board: Arc<Board>,
+    seat: BoardSeat,
+    pass: WakePass,
+}
+
+impl Model for Listener {
+    ghost use Rattle.std.specs.Prelude.{◌≡◌, []};
+    ghost use Rattle.std.specs.Arc.{arc_value};
+    ghost use Rattle.hub_bell.specs.Seats.{BoardSeat, seat_of};
+
+    ghost Value = { BoardSeat };
+
+    ghost view = { λ l. seat_of l.seat.table_id l.seat.me.0 l.pass.me.0 };
+
+    ghost invariant = { λ l. (l.seat.table_id ≡ (arc_value l.board).words.shared.table_id)
+        × (l.pass.table_id ≡ (arc_value l.sleeper.unparker.state).shared.table_id) };
+}
+
+impl Listener {
+    ghost use Rattle.hub_bell.specs.declared.board.BoardStep.{BoardStep};
+    ghost use Rattle.hub_bell.specs.Ready.{names_word};
+    ghost use Rattle.hub_bell.specs.Seats.{new_at};
+    ghost use Rattle.hub_bell.specs.Listening.{HasSlept, IsTaken};
+
+    /// A listener, and the first of its bells. No bit is set.
+    pub fn open(alloc: Global) -> Result<(Listener, Bell), OutOfMemory>
+        ensures { IfOk result (λ made.
+            (made.0 ≡ new_at made.0.board) × (made.1 ≡ new_at made.0.board)) }
+    {
+        let (sleeper, pass) = Sleeper::ruled(alloc)?;
+        let waker = sleeper.unparker().clone()?;
+        let (words, seat) = BoardWords::of_words(alloc, &[0; WORDS], &())?;
+        let board = Arc::new(alloc, Board { words, waker })?;
+        let bell = Bell::at(Arc::try_clone(&board)?);
+        let listener = Listener {
+            sleeper,
+            board,
+            seat,
+            pass,
+        };
+        Ok((listener, bell))
+    }
+
+    /// One more bell of this listener, which has done nothing yet.
+    pub fn bell(&self) -> Result<Bell, OutOfMemory>
+        ensures { IfOk result (λ bell. bell ≡ new_at self.now.board) }
+    {
+        Ok(Bell::at(Arc::try_clone(&self.board)?))
+    }
+
+    /// Takes out the names of the groups in which bits were set: bit `n` is set where one was set
+    /// in the words from `16 * n` to `16 * n + 15` since the names were last taken out.
+    pub fn take_names(&mut self) -> u64
+        ensures { (self.new.board ≡ self.old.board)
+            × IsTaken self.old.at self.new.at names_word result }
+    {
+        self.take(NAMES)
+    }
+
+    /// Takes out the bits of a word: bit `k` of word `n` is that of the end whose number is
+    /// `64 * n + k`.
+    pub fn take_bits(&mut self, word: usize) -> u64
+        requires { word < 1024 }
+        ensures { (self.new.board ≡ self.old.board)
+            × IsTaken self.old.at self.new.at (16 + word) result }
+    {
+        self.take(FIRST_BITS + word)
+    }
+
+    // A load comes first, since mostly there is nothing to take out.
+    fn take(&mut self, word: usize) -> u64
+        requires { word < 1040 }
+        ensures { (self.new.board ≡ self.old.board)
+            × IsTaken self.old.at self.new.at word result }
+    {
+        let words = &self.board.words.shared;
+        if words.load::<Look>(&mut self.seat, word) == 0 {
+            return 0;
+        }
+        words.swap::<Take>(&mut self.seat, word, 0)
+    }
+
+    /// Sleeps until the loop is woken. It doesn't where an end was rung and its bit not taken out
+    /// yet, and it may return for no reason.
+    pub fn sleep<R: Wait>(&mut self, rt: &R)
+        ensures { (self.new.board ≡ self.old.board) × HasSlept self.old.at self.new.at }
+    {
+        let words = &self.board.words.shared;
+        words.store::<Store>(&mut self.seat, ASLEEP, 1);
+        if words.load::<Look>(&mut self.seat, NAMES) == 0 {
+            self.sleeper.park_as::<Sleep, R>(rt, &mut self.pass);
+        }
+        words.store::<Store>(&mut self.seat, ASLEEP, 0);
     }
 }

@@ -8,12 +8,7 @@
 #![tactic(auto)]
 
 mod bell;
-mod bits;
 mod board;
-mod listener;
-mod steps;
-mod waking;
 
-pub use bell::Bell;
-pub use listener::Listener;
+pub use bell::{Bell, Listener};
 pub use std::alloc::AllocError as OutOfMemory;

@@ -7,7 +7,7 @@ use Rattle.std.proofs.lemmas.List.Sums.{sum_by-drop_more}
 use Rattle.std.specs.Option.{option_to_list}
 use Rattle.hub_envelope.specs.declared.envelope.Draft.{Draft}
 use Rattle.hub_envelope.specs.declared.ids.EndId.{EndId}
-use Rattle.hub_broadcast.specs.declared.cast_outcome.CastOutcome.{CastOutcome}
+use Rattle.hub_broadcast.specs.declared.casting.CastOutcome.{CastOutcome}
 use Rattle.hub_broadcast.specs.Casting.{IsBroadcast, IsBroadcastAt, IsDelivered}
 use Rattle.hub_broadcast.specs.Destinations.{destinations_in, is_destination}
 use Rattle.hub_broadcast.specs.Members.{MemberSeat, SubscriptionSeat}

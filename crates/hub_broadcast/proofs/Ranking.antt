@@ -9,11 +9,11 @@ use Rattle.hub_envelope.specs.declared.ids.AgentId.{AgentId}
 use Rattle.hub_envelope.specs.declared.ids.EndId.{EndId}
 use Rattle.hub_envelope.specs.declared.limits.TheConstants.{MAX_ENDS}
 use Rattle.hub_envelope.specs.declared.posted.Posted.{Posted}
-use Rattle.hub_queue.specs.declared.post_error.PostError.{PostError}
+use Rattle.hub_queue.specs.declared.error.PostError.{PostError}
 use Rattle.hub_queue.specs.Mailboxes.{new_stand}
 use Rattle.hub_queue.specs.Posting.{IsPosted}
 use Rattle.hub_queue.specs.Standing.{StandSeat}
-use Rattle.hub_broadcast.specs.declared.cast_outcome.CastOutcome.{CastOutcome}
+use Rattle.hub_broadcast.specs.declared.casting.CastOutcome.{CastOutcome}
 use Rattle.hub_broadcast.specs.Casting.{AreDestinations, IsBroadcast, IsDelivered, IsOutcomeAt, post_answer}
 use Rattle.hub_broadcast.specs.Destinations.{destinations_in, is_destination, is_of_end}
 use Rattle.hub_broadcast.specs.Joining.{IsJoined}

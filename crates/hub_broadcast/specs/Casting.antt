@@ -3,11 +3,11 @@ use Rattle.std.specs.Prelude.{◌≡◌, ◌≢◌, ℕ, [], ◌∷◌, ◌++◌
 use Rattle.hub_envelope.specs.declared.envelope.Draft.{Draft}
 use Rattle.hub_envelope.specs.declared.ids.EndId.{EndId}
 use Rattle.hub_envelope.specs.declared.posted.Posted.{Posted}
-use Rattle.hub_queue.specs.declared.post_error.PostError.{PostError}
-use Rattle.hub_queue.specs.declared.post_error.PostError.TheVariants as refusal
+use Rattle.hub_queue.specs.declared.error.PostError.{PostError}
+use Rattle.hub_queue.specs.declared.error.PostError.TheVariants as refusal
 use Rattle.hub_queue.specs.Posting.{IsPosted}
-use Rattle.hub_broadcast.specs.declared.cast_outcome.CastOutcome.{CastOutcome}
-use Rattle.hub_broadcast.specs.declared.cast_outcome.CastOutcome.TheVariants.{Accepted, Closed, OutOfMemory, Moving}
+use Rattle.hub_broadcast.specs.declared.casting.CastOutcome.{CastOutcome}
+use Rattle.hub_broadcast.specs.declared.casting.CastOutcome.TheVariants.{Accepted, Closed, OutOfMemory, Moving}
 use Rattle.hub_broadcast.specs.Destinations.{is_destination}
 use Rattle.hub_broadcast.specs.Members.{MemberSeat, SubscriptionSeat}
 use Rattle.hub_broadcast.specs.Rising.{Rise}

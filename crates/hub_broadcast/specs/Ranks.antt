@@ -3,7 +3,7 @@ use Rattle.std.specs.Prelude.{ℕ, ◌+◌, filter, List, map, not}
 use Rattle.hub_envelope.specs.declared.envelope.Draft.{Draft}
 use Rattle.hub_envelope.specs.declared.ids.AgentId.{AgentId}
 use Rattle.hub_envelope.specs.declared.ids.EndId.{EndId}
-use Rattle.hub_broadcast.specs.declared.cast_outcome.CastOutcome.{CastOutcome}
+use Rattle.hub_broadcast.specs.declared.casting.CastOutcome.{CastOutcome}
 use Rattle.hub_broadcast.specs.Casting.{IsBroadcast}
 use Rattle.hub_broadcast.specs.Destinations.{destinations_in, is_of_end}
 use Rattle.hub_broadcast.specs.Joining.{IsJoined}

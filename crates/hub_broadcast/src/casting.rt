@@ -1,15 +1,29 @@
 //! The parts of a cast: a draft for each destination, and a post of it there.
+
 ghost use Rattle.std.specs.Prelude.{◌≡◌, All, vec_len, IfOk, OnErr};
 ghost use Rattle.hub_broadcast.specs.Casting.{IsBroadcast, cast_draft};
 
-use crate::cast_outcome::CastOutcome;
 use crate::member::Member;
 use crate::subscription::Subscription;
 use hub_depot::Depot;
 use hub_envelope::{Body, Draft, EndId, OutOfMemory, Ports};
-use hub_queue::Onward;
+use hub_queue::{Onward, Posted};
 use std::alloc::Global;
 use std::sync::Wait;
+
+/// What became of a cast at one destination.
+#[derive(Clone, Copy, Debug, PartialEq, Eq, Drop)]
+pub enum CastOutcome {
+    /// The body was put there, under this name.
+    Accepted(Posted),
+    /// The end is closed: its agent has closed it, and it hasn't left the roster yet.
+    Closed,
+    /// There was no memory for one more envelope there, or its line has put `MAX_PUT` of them.
+    OutOfMemory,
+    /// The end has moved on, and its line could not follow it. The end of a member is never
+    /// adopted, so no run answers this, though no contract says so.
+    Moving,
+}
 
 /// So many drafts of what the source casts.
 pub(crate) fn drafts_of(

@@ -6,10 +6,8 @@
 //! the roster's lock before the yard's, never the other way round.
 #![tactic(auto)]
 
-mod cast_error;
-mod cast_outcome;
 mod casting;
-mod join_error;
+mod error;
 mod laws;
 mod lent;
 mod member;
@@ -17,13 +15,12 @@ mod roster;
 mod shared_roster;
 mod subscription;
 
-pub use cast_error::CastError;
-pub use cast_outcome::CastOutcome;
+pub use casting::CastOutcome;
+pub use error::{CastError, JoinError};
 pub use hub_envelope::OutOfMemory;
 pub use hub_origin::{Origin, OriginError, origin_of};
-pub use join_error::JoinError;
 pub use laws::roster_laws;
-pub use lent::{cast_in, join_in, leave_in};
+pub use lent::{cast_in, leave_in};
 pub use member::Member;
 pub use roster::Roster;
 pub use shared_roster::SharedRoster;

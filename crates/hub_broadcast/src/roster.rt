@@ -5,10 +5,8 @@ ghost use Rattle.hub_broadcast.specs.Casting.{AreDestinations, IsBroadcast, cast
 ghost use Rattle.hub_broadcast.specs.Destinations.{destinations_in, is_of_end};
 ghost use Rattle.hub_broadcast.specs.Joining.{IsJoined};
 
-use crate::cast_error::CastError;
-use crate::cast_outcome::CastOutcome;
-use crate::casting::cast_all;
-use crate::join_error::JoinError;
+use crate::casting::{CastOutcome, cast_all};
+use crate::error::{CastError, JoinError};
 use crate::member::Member;
 use crate::subscription::Subscription;
 use hub_depot::Depot;

@@ -4,10 +4,8 @@ ghost use Rattle.hub_envelope.specs.declared.limits.TheConstants.{MAX_ENDS};
 ghost use Rattle.hub_broadcast.specs.Casting.{AreDestinations};
 ghost use Rattle.hub_broadcast.specs.Joining.{IsNewMember};
 
-use crate::cast_error::CastError;
-use crate::cast_outcome::CastOutcome;
-use crate::join_error::JoinError;
-use crate::lent::{cast_in, join_in, leave_in};
+use crate::casting::CastOutcome;
+use crate::error::{CastError, JoinError};
 use crate::member::Member;
 use crate::roster::Roster;
 use hub_depot::Depot;
@@ -64,14 +62,12 @@ impl SharedRoster {
         ensures too_many { IsErrOf result JoinError.TooManyEnds ↔ (MAX_ENDS ≤ ends.old.drawn) }
         ensures err { OnErr result (ends.new ≡ ends.old) }
     {
-        let mut lender = &self.roster;
-        join_in(rt, &mut lender, ends, agent, origin, name, bell)
+        self.roster.lock(rt).join(ends, agent, origin, name, bell)
     }
 
     /// Takes a member out of the roster: `Roster::leave` under the lock. It takes no memory.
     pub fn leave(&self, rt: &impl Wait, end: EndId) {
-        let mut lender = &self.roster;
-        leave_in(rt, &mut lender, end);
+        self.roster.lock(rt).leave(end);
     }
 
     /// Casts from a member: `Roster::cast` under the lock.
@@ -87,7 +83,6 @@ impl SharedRoster {
         ensures list { IsErrOf result CastError.NotTransferable → 0 < length list.now }
         ensures no_list { OnOk result (list.now ≡ []) }
     {
-        let mut lender = &self.roster;
-        cast_in(rt, &mut lender, yard, source, body, list)
+        self.roster.lock(rt).cast(rt, yard, source, body, list)
     }
 }

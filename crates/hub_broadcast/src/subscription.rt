@@ -2,7 +2,7 @@ ghost use Rattle.std.specs.Prelude.{◌≡◌};
 ghost use Rattle.hub_broadcast.specs.Casting.{IsDelivered};
 ghost use Rattle.hub_broadcast.specs.Destinations.{is_destination};
 
-use crate::cast_outcome::CastOutcome;
+use crate::casting::CastOutcome;
 use crate::member::Member;
 use hub_depot::Depot;
 use hub_envelope::{Draft, EndId};

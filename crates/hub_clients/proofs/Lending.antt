@@ -6,7 +6,7 @@ use Rattle.std.proofs.lemmas.List.{set-get_or}
 use Rattle.std.proofs.lemmas.Option.{get_or_from_slice_get, same_Some}
 use Rattle.hub_envelope.specs.declared.ids.EndId.{EndId}
 use Rattle.hub_queue.specs.Standing.{StandSeat}
-use Rattle.hub_clients.specs.declared.directory_error.DirectoryError.TheVariants.{NoLine}
+use Rattle.hub_clients.specs.declared.error.DirectoryError.TheVariants.{NoLine}
 use Rattle.hub_clients.specs.Lines.{IsTakenOut, IsPutBack, IsLent, IsGivenBack, IsOut}
 use Rattle.hub_clients.specs.Listings.{ListedSeat, IsFirstOf}
 

@@ -1,17 +1,17 @@
 -- Queues that go from one agent to another.
 use Rattle.std.specs.Prelude.{◌≡◌, ℕ, List, [], ◌∷◌, ◌++◌, Option, Some, Result, Ok, Err}
 use Rattle.std.specs.FinMap as map
-use Rattle.hub_depot.specs.declared.key.Key.{Key}
+use Rattle.hub_depot.specs.declared.kept.Key.{Key}
 use Rattle.hub_depot.specs.Key.{key_cmp}
 use Rattle.hub_envelope.specs.declared.ids.AgentId.{AgentId}
-use Rattle.hub_queue.specs.declared.adopt_error.AdoptError.{AdoptError}
+use Rattle.hub_queue.specs.declared.error.AdoptError.{AdoptError}
 use Rattle.hub_queue.specs.Adopting.{IsAdopted}
 use Rattle.hub_queue.specs.Ending.{IsClosed}
 use Rattle.hub_queue.specs.Graves.{GraveSeat}
 use Rattle.hub_queue.specs.Taking.{TakerSeat, started}
 use Rattle.hub_clients.specs.declared.handed.Handed.{Handed}
-use Rattle.hub_clients.specs.declared.handed_queue.HandedQueue.{HandedQueue}
-use Rattle.hub_clients.specs.declared.handed_queue.HandedQueue.TheVariants.{Client, Worker}
+use Rattle.hub_clients.specs.declared.handed.HandedQueue.{HandedQueue}
+use Rattle.hub_clients.specs.declared.handed.HandedQueue.TheVariants.{Client, Worker}
 
 -- whoever takes from the queue
 abbrev pub taker_of : HandedQueue → TakerSeat

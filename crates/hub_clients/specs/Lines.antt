@@ -2,8 +2,8 @@
 use Rattle.std.specs.Prelude.{◌≡◌, ◌≢◌, ℕ, List, slice_get, slice_set, position, is_some, Option, Some, None, Result, Ok, Err, All}
 use Rattle.hub_envelope.specs.declared.ids.EndId.{EndId}
 use Rattle.hub_queue.specs.Standing.{StandSeat}
-use Rattle.hub_clients.specs.declared.directory_error.DirectoryError.{DirectoryError}
-use Rattle.hub_clients.specs.declared.directory_error.DirectoryError.TheVariants.{NoSuchEnd, NoLine}
+use Rattle.hub_clients.specs.declared.error.DirectoryError.{DirectoryError}
+use Rattle.hub_clients.specs.declared.error.DirectoryError.TheVariants.{NoSuchEnd, NoLine}
 use Rattle.hub_clients.specs.Listings.{ListedSeat, IsFirstOf}
 
 -- the queue with this at one of its lines

@@ -1,27 +1,50 @@
-ghost use Rattle.std.specs.Prelude.{◌≡◌, ◌+◌, ◌<◌, ◌≤◌, ◌↔◌};
-ghost use Rattle.std.specs.Prelude.{IfSome, IfOk, OnOk, IfErr, OnErr, IsErrOf};
+ghost use Rattle.std.specs.Prelude.{◌≡◌, ◌+◌, ◌≤◌, ◌↔◌, IfOk, OnOk, OnErr, IsErrOf, ◌<◌, IfSome};
+ghost use Rattle.std.specs.Prelude.{IfErr};
 ghost use Rattle.hub_envelope.specs.declared.limits.TheConstants.{MAX_ENDS, MAX_LINES};
+ghost use Rattle.hub_locked.specs.Lending.{IsDoneIn};
+ghost use Rattle.hub_clients.specs.Listings.{IsListed};
+ghost use Rattle.hub_clients.specs.NewQueues.{IsNewClientQueue, listed_of, IsNewWorkerQueue};
 ghost use Rattle.hub_clients.specs.Handing.{taker_of};
-ghost use Rattle.hub_clients.specs.NewQueues.{IsNewClientQueue, IsNewWorkerQueue};
 
-use crate::client_queue::ClientQueue;
-use crate::closing::close_all;
-use crate::directory_error::DirectoryError;
-use crate::hand_error::HandError;
-use crate::handed::Handed;
-use crate::handed_queue::HandedQueue;
-use crate::keeping::{fetch_from, keep_on};
-use crate::lent::{give_back_in, line_in, open_in};
-use crate::listing::Listing;
-use crate::queue::Queue;
-use crate::queue_error::QueueError;
-use crate::worker_queue::WorkerQueue;
+use crate::error::{DirectoryError, HandError, QueueError};
+use crate::handed::{Handed, HandedQueue, close_all, fetch_from, keep_on};
+use crate::listing::{Listed, Listing};
+use crate::queue::{ClientQueue, Queue, WorkerQueue};
 use hub_depot::Depot;
-use hub_envelope::{AgentId, EndId};
-use hub_locked::{Locked, Unheard};
-use hub_queue::{Bell, Ends, Poster, Taker};
+use hub_envelope::{AgentId, EndId, MAX_LINES};
+use hub_locked::{Lends, Locked, Unheard};
+use hub_queue::{Bell, Ends, Mailbox, Poster, Taker};
 use std::alloc::Global;
 use std::sync::Wait;
+
+/// A queue of the next number, which is listed with all its lines at home. All that can be refused
+/// but the place in the listing is made before that is asked for, and the number is used up last.
+/// After an error nothing more is listed.
+pub fn open_in<L: Lends<Listing>, R: Wait>(
+    rt: &R,
+    alloc: Global,
+    lender: &mut L,
+    ends: &mut Ends,
+    bell: Bell,
+) -> Result<Taker, QueueError>
+    ensures queue { IfOk result (IsNewClientQueue ends.old.drawn) }
+    ensures listed { IfOk result (λ taker. IsDoneIn (L.shown lender.old) (L.shown lender.new)
+        (λ was now. IsListed was now (listed_of taker))) }
+    ensures not_listed { OnErr result (L.shown lender.new ≡ L.shown lender.old) }
+    ensures drawn { OnOk result (ends.new.drawn ≡ ends.old.drawn + 1) }
+    ensures err { OnErr result (ends.new ≡ ends.old) }
+    ensures many { IsErrOf result QueueError.TooManyEnds ↔ (MAX_ENDS ≤ ends.old.drawn) }
+{
+    let mut drawn = *ends;
+    let Some(end) = drawn.draw() else {
+        return Err(QueueError::TooManyEnds);
+    };
+    let (taker, posters) = Mailbox::open(alloc, end, MAX_LINES as u8, bell)?;
+    let listed = Listed::new(alloc, end, posters)?;
+    lender.lend(rt, |listing| listing.list(listed))?;
+    *ends = drawn;
+    Ok(taker)
+}
 
 /// Where agents find the queues of clients and workers, and where a queue waits that goes from one
 /// agent to another. Threads share it.
@@ -111,8 +134,7 @@ impl Directory {
     pub fn line_to<R: Wait>(&self, rt: &R, end: EndId) -> Result<Poster, DirectoryError>
         ensures { IfOk result (λ p. (p.name.end ≡ end) × (p.name.line.0 < MAX_LINES)) }
     {
-        let mut lender = &self.listing;
-        line_in(rt, &mut lender, end)
+        self.listing.lock(rt).line_to(end)
     }
 
     /// Takes a line back: `Listing::give_back` under the lock. The poster comes back where no
@@ -120,8 +142,7 @@ impl Directory {
     pub fn give_back<R: Wait>(&self, rt: &R, poster: Poster) -> Result<(), Poster>
         ensures { IfErr result (λ back. back ≡ poster) }
     {
-        let mut lender = &self.listing;
-        give_back_in(rt, &mut lender, poster)
+        self.listing.lock(rt).give_back(poster)
     }
 
     /// Keeps a queue until that agent fetches it.

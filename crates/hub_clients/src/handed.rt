@@ -1,6 +1,53 @@
-use crate::handed_queue::HandedQueue;
-use hub_depot::{Key, Named};
+//! How a queue waits for the agent that it was handed to, in a map of one's own or in the
+//! directory's.
+
+ghost use Rattle.std.specs.Prelude.{◌≡◌, IsNone, IsSome, IfSome, IfNone, OnOk, IfErr, OnErr};
+ghost use Rattle.std.specs.FinMap as map;
+ghost use Rattle.std.specs.Option.{option_map};
+ghost use Rattle.hub_clients.specs.Handing.{handed_name, handed_to, taker_of, AreToldClosed};
+
+use crate::error::HandError;
+use crate::queue::{ClientQueue, WorkerQueue};
+use hub_depot::{DepotError, Kept, Key, Named, put_in, take_in};
 use hub_envelope::{AgentId, EndId, LineId};
+use hub_locked::{Hears, Lends};
+use hub_queue::Grave;
+use std::sync::Wait;
+
+/// A queue that goes from one agent to another.
+#[derive(Drop)]
+pub enum HandedQueue {
+    /// A client's.
+    Client(ClientQueue),
+    /// A worker's.
+    Worker(WorkerQueue),
+}
+
+impl HandedQueue {
+    ghost use Rattle.std.specs.Prelude.{◌≡◌};
+    ghost use Rattle.hub_queue.specs.Ending.{IsClosed};
+    ghost use Rattle.hub_clients.specs.Handing.{taker_of};
+
+    /// The number of the queue.
+    pub fn end(&self) -> EndId
+        ensures { result.0 ≡ (taker_of self.now).end }
+    {
+        match self {
+            HandedQueue::Client(queue) => queue.end(),
+            HandedQueue::Worker(queue) => queue.end(),
+        }
+    }
+
+    /// Closes the end, as the `close` of either queue does.
+    pub fn close(self) -> Grave
+        ensures { IsClosed (taker_of self) result }
+    {
+        match self {
+            HandedQueue::Client(queue) => queue.close(),
+            HandedQueue::Worker(queue) => queue.close(),
+        }
+    }
+}
 
 /// A queue that waits for the agent that it was handed to.
 #[derive(Drop)]
@@ -39,5 +86,60 @@ impl Named for Handed {
         ensures { result ≡ handed_name (taker_of self.now.queue).end self.now.to }
     {
         Handed::name_for(self.queue.end(), self.to)
+    }
+}
+
+/// Keeps a queue until that agent fetches it. After an error it comes back.
+pub fn keep_on<L: Lends<Kept<Handed>>, R: Wait>(
+    rt: &R,
+    lender: &mut L,
+    queue: HandedQueue,
+    to: AgentId,
+) -> Result<(), (HandError, HandedQueue)>
+    ensures kept { OnOk result (L.shown lender.new ≡ option_map (λ kept.
+        map.insert kept (handed_name (taker_of queue).end to) (handed_to to queue))
+        (L.shown lender.old)) }
+    ensures free { OnOk result (IfSome (L.shown lender.old) (λ kept.
+        IsNone (map.get kept (handed_name (taker_of queue).end to)))) }
+    ensures taken { IfErr result (λ refused. refused.0 ≡ HandError.Taken
+        → IfSome (L.shown lender.old) (λ kept.
+        IsSome (map.get kept (handed_name (taker_of queue).end to)))) }
+    ensures back { IfErr result (λ refused. refused.1 ≡ queue) }
+    ensures err { OnErr result (L.shown lender.new ≡ L.shown lender.old) }
+{
+    match put_in(rt, lender, Handed { queue, to }) {
+        Ok(()) => Ok(()),
+        Err(DepotError::Taken(Handed { queue, to: _ })) => Err((HandError::Taken, queue)),
+        Err(DepotError::OutOfMemory(Handed { queue, to: _ })) => {
+            Err((HandError::OutOfMemory, queue))
+        }
+    }
+}
+
+/// Takes out the queue of that number that was handed to that agent.
+pub fn fetch_from<L: Lends<Kept<Handed>>, R: Wait>(
+    rt: &R,
+    lender: &mut L,
+    end: EndId,
+    to: AgentId,
+) -> Option<Handed>
+    ensures handed { IfSome result (λ h. ((taker_of h.queue).end ≡ end.0) × (h.to ≡ to)) }
+    ensures value { IfSome (L.shown lender.old) (λ kept.
+        result ≡ map.get kept (handed_name end.0 to)) }
+    ensures rest { L.shown lender.new
+        ≡ option_map (λ kept. map.remove kept (handed_name end.0 to)) (L.shown lender.old) }
+{
+    take_in(rt, lender, Handed::name_for(end, to))
+}
+
+/// Closes all queues that wait, and tells of each closed end.
+pub fn close_all<H: Hears<Grave>, R: Wait>(rt: &R, waiting: &mut Kept<Handed>, heard: &mut H)
+    ensures all { waiting.new ≡ map.empty }
+    ensures told { IfSome (H.told heard.old) (λ before.
+        AreToldClosed waiting.old map.empty before (H.told heard.new)) }
+{
+    while let Some(handed) = waiting.take_any() {
+        let Handed { queue, to: _ } = handed;
+        heard.tell(rt, queue.close());
     }
 }

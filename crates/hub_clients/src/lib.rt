@@ -6,34 +6,14 @@
 //! that agent.
 #![tactic(auto)]
 
-mod client_queue;
-mod closing;
 mod directory;
-mod directory_error;
-mod hand_error;
+mod error;
 mod handed;
-mod handed_queue;
-mod keeping;
-mod kind;
-mod lent;
-mod listed;
 mod listing;
 mod queue;
-mod queue_error;
-mod worker_queue;
 
-pub use client_queue::{Client, ClientQueue};
-pub use closing::close_all;
-pub use directory::Directory;
-pub use directory_error::DirectoryError;
-pub use hand_error::HandError;
-pub use handed::Handed;
-pub use handed_queue::HandedQueue;
-pub use keeping::{fetch_from, keep_on};
-pub use kind::Kind;
-pub use lent::{give_back_in, line_in, open_in};
-pub use listed::Listed;
-pub use listing::Listing;
-pub use queue::Queue;
-pub use queue_error::QueueError;
-pub use worker_queue::{Worker, WorkerQueue};
+pub use directory::{Directory, open_in};
+pub use error::{DirectoryError, HandError, QueueError};
+pub use handed::{Handed, HandedQueue, close_all, fetch_from, keep_on};
+pub use listing::{Listed, Listing};
+pub use queue::{Client, ClientQueue, Kind, Queue, Worker, WorkerQueue};

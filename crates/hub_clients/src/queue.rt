@@ -1,16 +1,39 @@
 ghost use Rattle.std.specs.Prelude.{◌≡◌, IfErr, length};
-ghost use Rattle.hub_queue.specs.Adopting.{newest_epoch};
+ghost use Rattle.hub_queue.specs.Adopting.{newest_epoch, IsAdopted};
 ghost use Rattle.hub_queue.specs.Ending.{IsClosed};
-ghost use Rattle.hub_queue.specs.Taking.{IsTaken};
+ghost use Rattle.hub_queue.specs.Taking.{IsTaken, started};
+ghost use Rattle.hub_clients.specs.Handing.{IsAdoptedAndStarted};
 
 use crate::directory::Directory;
-use crate::hand_error::HandError;
-use crate::kind::Kind;
+use crate::error::HandError;
+use crate::handed::HandedQueue;
+use hub_depot::Depot;
 use hub_envelope::{AgentId, EndId};
-use hub_queue::{Grave, Steps, Taker, Took};
+use hub_queue::{AdoptError, Bell, Grave, Onward, Steps, Taker, Took};
 use std::marker::{Model, PhantomData};
 use std::sync::Wait;
 use std::sync::ledger::Ledger;
+
+/// A kind of queue that agents hand on.
+pub trait Kind {
+    ghost use Rattle.std.specs.Prelude.{◌≡◌};
+    ghost use Rattle.hub_queue.specs.Taking.{TakerSeat};
+    ghost use Rattle.hub_clients.specs.declared.handed.HandedQueue.{
+      HandedQueue as HandedSeat,
+    };
+
+    /// A queue of this kind, as it is handed on.
+    ghost as_handed: { TakerSeat → HandedSeat };
+
+    /// The queue, as it is handed on.
+    fn handed(queue: Queue<Self>) -> HandedQueue
+        ensures { result ≡ as_handed queue };
+
+    /// The queue that was not handed on.
+    fn given_back(queue: HandedQueue) -> Queue<Self>
+        requires { (own : TakerSeat) × (queue ≡ as_handed own) }
+        ensures { (own : TakerSeat) → queue ≡ as_handed own → result ≡ own };
+}
 
 /// The message queue of a client or of a worker, as the kind says: `ClientQueue` or `WorkerQueue`.
 /// Others post at it over lines that the directory lends.
@@ -100,6 +123,129 @@ impl<K: Kind> Queue<K> {
         match directory.keep(rt, K::handed(self), to) {
             Ok(()) => Ok(()),
             Err((error, queue)) => Err((error, K::given_back(queue))),
+        }
+    }
+}
+
+/// That a queue is a client's.
+pub struct Client;
+
+/// The message queue of a client (W3C Service Workers, "client message queue").
+///
+/// `Directory::client` makes one, empty and disabled.
+pub type ClientQueue = Queue<Client>;
+
+impl Kind for Client {
+    ghost use Rattle.std.specs.Prelude.{◌≡◌};
+    ghost use Rattle.hub_queue.specs.Taking.{TakerSeat};
+    ghost use Rattle.hub_clients.specs.declared.handed.HandedQueue.TheVariants.{
+      Client as ClientHanded,
+    };
+
+    ghost as_handed = { ClientHanded };
+
+    fn handed(queue: ClientQueue) -> HandedQueue
+        ensures { result ≡ ClientHanded queue }
+    {
+        HandedQueue::Client(queue)
+    }
+
+    fn given_back(queue: HandedQueue) -> ClientQueue
+        requires { (own : TakerSeat) × (queue ≡ ClientHanded own) }
+        ensures { (own : TakerSeat) → queue ≡ ClientHanded own → result ≡ own }
+    {
+        match queue {
+            HandedQueue::Client(queue) => queue,
+            HandedQueue::Worker(_) => unreachable!(),
+        }
+    }
+}
+
+impl Queue<Client> {
+    /// Enables the queue (W3C Service Workers, "client message queue": `startMessages()`, or the
+    /// first setting of `onmessage`). What it holds stays.
+    pub fn start_messages(&mut self)
+        ensures { self.new ≡ started self.old }
+    {
+        self.taker.start();
+    }
+
+    /// Enables the queue of a document whose parsing has ended (W3C Service Workers, "client
+    /// message queue": the end of parsing enables it too). What it holds stays.
+    pub fn loaded(&mut self)
+        ensures { self.new ≡ started self.old }
+    {
+        self.taker.start();
+    }
+
+    /// Moves the queue to the loop that has fetched it, as `Taker::adopt` does. It is disabled
+    /// then. After an error it is as it was.
+    pub fn adopt<R: Wait>(
+        self,
+        rt: &R,
+        yard: &Depot<Onward>,
+        bell: Bell,
+    ) -> Result<ClientQueue, (AdoptError, ClientQueue)>
+        ensures { IsAdopted self result }
+    {
+        match self.into_taker().adopt(rt, yard, bell) {
+            Ok(taker) => Ok(Queue::of(taker)),
+            Err((error, taker)) => Err((error, Queue::of(taker))),
+        }
+    }
+}
+
+/// That a queue is a worker's.
+pub struct Worker;
+
+/// The message queue of a worker, to which `ServiceWorker.postMessage` posts (W3C Service Workers).
+///
+/// `Directory::worker` makes one, empty and enabled.
+pub type WorkerQueue = Queue<Worker>;
+
+impl Kind for Worker {
+    ghost use Rattle.std.specs.Prelude.{◌≡◌};
+    ghost use Rattle.hub_queue.specs.Taking.{TakerSeat};
+    ghost use Rattle.hub_clients.specs.declared.handed.HandedQueue.TheVariants.{
+      Worker as WorkerHanded,
+    };
+
+    ghost as_handed = { WorkerHanded };
+
+    fn handed(queue: WorkerQueue) -> HandedQueue
+        ensures { result ≡ WorkerHanded queue }
+    {
+        HandedQueue::Worker(queue)
+    }
+
+    fn given_back(queue: HandedQueue) -> WorkerQueue
+        requires { (own : TakerSeat) × (queue ≡ WorkerHanded own) }
+        ensures { (own : TakerSeat) → queue ≡ WorkerHanded own → result ≡ own }
+    {
+        match queue {
+            HandedQueue::Worker(queue) => queue,
+            HandedQueue::Client(_) => unreachable!(),
+        }
+    }
+}
+
+impl Queue<Worker> {
+    /// Moves the queue to the loop that has fetched it, as `Taker::adopt` does, and enables it at
+    /// once. After an error it is as it was.
+    pub fn adopt<R: Wait>(
+        self,
+        rt: &R,
+        yard: &Depot<Onward>,
+        bell: Bell,
+    ) -> Result<WorkerQueue, (AdoptError, WorkerQueue)>
+        ensures { IsAdoptedAndStarted self result }
+    {
+        match self.into_taker().adopt(rt, yard, bell) {
+            Ok(mut taker) => {
+                taker.start();
+                Ok(Queue::of(taker))
+            }
+            Err((error, taker)) => Err((error, Queue::of(taker))),
         }
     }
 }

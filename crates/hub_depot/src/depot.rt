@@ -1,10 +1,7 @@
 ghost use Rattle.std.specs.Prelude.{◌≡◌, IfSome, IfErr};
 ghost use Rattle.hub_depot.specs.DepotError.{refused_value};
 
-use crate::depot_error::DepotError;
-use crate::kept::Kept;
-use crate::key::Key;
-use crate::named::Named;
+use crate::kept::{DepotError, Kept, Key, Named};
 use hub_locked::Locked;
 use std::alloc::Global;
 use std::sync::Wait;

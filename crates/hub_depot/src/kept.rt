@@ -1,14 +1,49 @@
 ghost use Rattle.std.specs.Prelude.{◌≡◌, ◌+◌, ◌↔◌, OnSome, IsSome, IsNone, IfSome, IfNone, OnOk};
 ghost use Rattle.std.specs.Prelude.{OnErr, IfErr, IsErrOf};
+ghost use Rattle.hub_depot.specs.declared.kept.Key.{Key as KeyValue};
 ghost use Rattle.std.specs.FinMap as map;
 ghost use Rattle.hub_depot.specs.DepotError.{refused_value};
 
-use crate::depot_error::DepotError;
-use crate::key::Key;
-use crate::named::Named;
+use hub_envelope::{EndId, LineId};
 use std::alloc::{AllocFailed, Global};
 use std::collections::BTreeMap;
+use std::fmt::Debug;
 use std::marker::Model;
+use thiserror::Error;
+
+/// The name under which a depot keeps a value: an end, the queue of that end, and the line.
+/// Keys are ordered by end, then by epoch, then by line.
+#[derive(Clone, Copy, Debug, PartialEq, Eq, PartialOrd, Ord, Hash)]
+pub struct Key {
+    /// The end that the value belongs to.
+    pub end: EndId,
+    /// The queue of that end, counted from 0: the end's adoptions up to then.
+    pub epoch: u32,
+    /// The line of that end.
+    pub line: LineId,
+}
+
+/// A value that bears a name.
+pub trait Named {
+    /// The name, as contracts see it.
+    ghost name: { Self → KeyValue };
+
+    /// The name of this value. It is the same for as long as the value isn't changed.
+    fn name(&self) -> Key
+        ensures { result ≡ name self.now };
+}
+
+/// Why a value was not kept. The value comes back in it.
+#[derive(Debug, Drop, Error)]
+#[error_bound(V: Debug + Drop)]
+pub enum DepotError<V> {
+    /// A value of that name is kept already.
+    #[error("a value of that name is kept already")]
+    Taken(V),
+    /// There was no memory for one more value.
+    #[error("out of memory")]
+    OutOfMemory(V),
+}
 
 /// Values under their names, at most one under each: the map that a `Depot` holds behind its lock.
 ///

@@ -6,10 +6,7 @@ ghost use Rattle.std.specs.FinMap as map;
 ghost use Rattle.std.specs.Option.{option_map};
 ghost use Rattle.hub_depot.specs.DepotError.{refused_value};
 
-use crate::depot_error::DepotError;
-use crate::kept::Kept;
-use crate::key::Key;
-use crate::named::Named;
+use crate::kept::{DepotError, Kept, Key, Named};
 use hub_locked::Lends;
 use std::sync::Wait;
 

@@ -6,17 +6,11 @@
 #![tactic(auto)]
 
 mod depot;
-mod depot_error;
 mod kept;
-mod key;
 mod lent;
-mod named;
 mod putting;
 
 pub use depot::Depot;
-pub use depot_error::DepotError;
-pub use kept::Kept;
-pub use key::Key;
+pub use kept::{DepotError, Kept, Key, Named};
 pub use lent::{put_in, take_in};
-pub use named::Named;
 pub use putting::put_all;

@@ -6,11 +6,8 @@ ghost use Rattle.std.specs.Option.{option_map};
 ghost use Rattle.hub_depot.specs.DepotError.{refused_value};
 ghost use Rattle.hub_depot.specs.Putting.{with_all, without_all, IsTakenAmong};
 
-use crate::depot_error::DepotError;
-use crate::kept::Kept;
-use crate::key::Key;
+use crate::kept::{DepotError, Kept, Key, Named};
 use crate::lent::{put_in, take_in};
-use crate::named::Named;
 use hub_locked::Lends;
 use std::alloc::Global;
 use std::sync::Wait;

@@ -1,10 +1,10 @@
 -- What an entry at a gate comes to, and what a leave does.
 use Rattle.std.specs.Prelude.{◌≡◌, ℕ, Bool, true, false, List, Some, None}
 use Rattle.hub_core.specs.GateMachine as machine
-use Rattle.hub_gate.specs.declared.entered.Refusal.{Refusal}
-use Rattle.hub_gate.specs.declared.entered.Refusal.TheVariants.{Moved, Closed}
-use Rattle.hub_gate.specs.declared.entered.Entered.{Entered}
-use Rattle.hub_gate.specs.declared.entered.Entered.TheVariants.{In, Turned}
+use Rattle.hub_gate.specs.declared.entry.Refusal.{Refusal}
+use Rattle.hub_gate.specs.declared.entry.Refusal.TheVariants.{Moved, Closed}
+use Rattle.hub_gate.specs.declared.entry.Entered.{Entered}
+use Rattle.hub_gate.specs.declared.entry.Entered.TheVariants.{In, Turned}
 use Rattle.hub_gate.specs.GateSeats.{EntrySeat, InsideSeat}
 use Rattle.hub_gate.specs.GatePlays.{Happens, entered_line, left_line, turned_line}
 

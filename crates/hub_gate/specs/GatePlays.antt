@@ -7,8 +7,8 @@ use Rattle.hub_gate.specs.declared.view.View.{View}
 use Rattle.hub_gate.specs.declared.view.View.TheVariants.{Fresh, Filling, Keeping, LineOut, LineInside, LineTurned}
 use Rattle.hub_gate.specs.declared.view.LineView.{LineView}
 use Rattle.hub_gate.specs.declared.view.KeeperView.{KeeperView}
-use Rattle.hub_gate.specs.declared.entered.Refusal.{Refusal}
-use Rattle.hub_gate.specs.declared.entered.Refusal.TheVariants.{Moved, Closed}
+use Rattle.hub_gate.specs.declared.entry.Refusal.{Refusal}
+use Rattle.hub_gate.specs.declared.entry.Refusal.TheVariants.{Moved, Closed}
 use Rattle.hub_core.specs.GateMachine as machine
 use Rattle.hub_gate.specs.GateRule.{Tags, keeper_at, Owns, IsShownBy}
 use Rattle.hub_gate.specs.GateSeats.{KeeperSeat, line_in, keeper_in}

@@ -1,8 +1,8 @@
 -- What a look at a gate comes to.
 use Rattle.std.specs.Prelude.{◌≡◌, ℕ, ◌<◌, false, true, List, map}
 use Rattle.hub_core.specs.GateMachine as machine
-use Rattle.hub_gate.specs.declared.looked.Looked.{Looked}
-use Rattle.hub_gate.specs.declared.looked.Looked.TheVariants.{Open, StillInside, Rights, Given}
+use Rattle.hub_gate.specs.declared.keeper.Looked.{Looked}
+use Rattle.hub_gate.specs.declared.keeper.Looked.TheVariants.{Open, StillInside, Rights, Given}
 use Rattle.hub_gate.specs.GateSeats.{KeeperSeat}
 use Rattle.hub_gate.specs.GateRule.{Owns}
 use Rattle.hub_gate.specs.GatePlays.{KeeperStep, looked_keeper, has_shut}

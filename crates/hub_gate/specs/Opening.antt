@@ -4,8 +4,8 @@ use Rattle.std.specs.Arc.{arc_value}
 use Rattle.atomic_table.specs.Table.{Me}
 use Rattle.hub_envelope.specs.declared.limits.TheConstants.{MAX_LINES}
 use Rattle.hub_gate.specs.declared.gate.Reserved.{Reserved}
-use Rattle.hub_gate.specs.declared.gate_error.GateError.{GateError}
-use Rattle.hub_gate.specs.declared.gate_error.GateError.TheVariants.{BadCount, OutOfMemory}
+use Rattle.hub_gate.specs.declared.gate.GateError.{GateError}
+use Rattle.hub_gate.specs.declared.gate.GateError.TheVariants.{BadCount, OutOfMemory}
 use Rattle.hub_gate.specs.declared.view.View.{View}
 use Rattle.hub_gate.specs.declared.view.View.TheVariants.{Fresh, Keeping}
 use Rattle.hub_gate.specs.GateRule.{Tags, keeper_at}

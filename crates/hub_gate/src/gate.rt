@@ -1,7 +1,7 @@
 //! How a gate is opened.
 
-ghost use Rattle.std.specs.Prelude.{◌≡◌, ◌≤◌, [], None, Some, map, replicate, length, vec_capacity};
-ghost use Rattle.std.specs.Prelude.{IfOk, IfErr};
+ghost use Rattle.std.specs.Prelude.{ℕ, List, [], ◌≡◌, ◌≤◌, None, Some, map, replicate, length};
+ghost use Rattle.std.specs.Prelude.{vec_capacity, IfOk, IfErr};
 ghost use Rattle.std.specs.Arc.{arc_value};
 ghost use Rattle.hub_gate.specs.declared.view.View.TheVariants.{Fresh};
 ghost use Rattle.hub_gate.specs.GateSeats.{AllSame, IsOpened, IsSeatOf, entries_of, keeper_tags};
@@ -10,16 +10,72 @@ ghost use Rattle.hub_gate.specs.Opening.{error_for, keeper_me, none_seated, all_
 ghost use Rattle.hub_gate.specs.Taking.{numbered};
 
 use crate::entry::Entry;
-use crate::gate_error::GateError;
-use crate::gate_table::{GateSeat, GateSteps, GateTable, NextLine};
 use crate::keeper::Keeper;
 use crate::plays::{Gather, Open};
-use crate::right::Right;
+use crate::view::View;
+use atomic_table::{Seat, Shared, Split, Table, TableRule};
 use hub_envelope::MAX_LINES;
 use std::alloc::{AllocError, Global};
 use std::marker::PhantomData;
 use std::snapshot::Snapshot;
 use std::sync::Arc;
+use thiserror::Error;
+
+/// What a gate keeps for a line: whoever is inside on that line has it in hand.
+pub trait Right: Drop {
+    /// By what contracts tell one right from another. A line's right has one tag for good.
+    ghost tag: { Self → List ℕ };
+}
+
+impl Right for u64 {
+    ghost tag = { λ _. [] };
+}
+
+/// Why no gate was opened. The rights come back with it.
+#[derive(Clone, Copy, Debug, PartialEq, Eq, Hash, Drop, Error)]
+pub enum GateError {
+    /// There was no right, or more than `MAX_LINES`.
+    #[error("a gate has 1 to 32 lines")]
+    BadCount,
+    /// The allocator refused memory.
+    #[error("out of memory")]
+    OutOfMemory,
+}
+
+/// One word, and a slot for the right of each line. The key is the rights that the gate opens with.
+pub type GateTable<T> = Table<Option<T>, View<T>, Snapshot<Vec<T>>, GateRule<T>, Global>;
+
+/// The steps on a gate's table.
+pub type GateSteps<T> = Shared<Option<T>, View<T>, Snapshot<Vec<T>>, GateRule<T>>;
+
+/// What a thread steps with at a gate's table: a line's seat, or the keeper's.
+pub type GateSeat<T> = Seat<Option<T>, View<T>>;
+
+/// The rule that `IsGate` states, for rights of one type.
+pub struct GateRule<T> {
+    rights: PhantomData<T>,
+}
+
+impl<T: Right> TableRule<Option<T>, View<T>, Snapshot<Vec<T>>> for GateRule<T> {
+    ghost use Rattle.std.specs.Prelude.{map};
+    ghost use Rattle.hub_gate.specs.declared.view.View.TheVariants.{Fresh};
+    ghost use Rattle.hub_gate.specs.GateRule.{IsGate};
+
+    ghost holds = { λ _. IsGate T.tag };
+
+    ghost first = { λ key. Fresh (map T.tag key.value.items) };
+}
+
+/// The keeper's seat cuts off the seat of the next line.
+pub struct NextLine;
+
+impl<T> Split<View<T>> for NextLine {
+    ghost use Rattle.hub_gate.specs.GateRule.{keeper_left, line_right};
+
+    ghost left = { keeper_left };
+
+    ghost right = { line_right };
+}
 
 /// A gate for rights of one type. `Gate::<T>::open` makes one; its parts are the keeper and the
 /// entries.

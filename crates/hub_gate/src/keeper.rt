@@ -5,17 +5,28 @@ ghost use Rattle.hub_gate.specs.GateSeats.{IsSeatOf, keeper_in};
 ghost use Rattle.hub_gate.specs.Taking.{numbered, values_in};
 ghost use Rattle.std.specs.Slots.{IsFull};
 
-use crate::gate_table::{GateSeat, GateSteps, GateTable};
-use crate::looked::Looked;
+use crate::gate::{GateSeat, GateSteps, GateTable, Right};
 use crate::plays::{Look, SetFlag};
-use crate::right::Right;
-use crate::witness::KeeperWitness;
+use crate::view::KeeperWitness;
 use crate::word::{Flag, count_in, shut_in};
 use atomic_table::Closed;
 use std::alloc::Global;
 use std::fmt;
 use std::marker::Model;
 use std::sync::Arc;
+
+/// What the keeper of a gate finds.
+#[derive(Drop)]
+pub enum Looked<T> {
+    /// The gate is neither retired nor closed.
+    Open,
+    /// So many lines are inside or being turned back.
+    StillInside(u8),
+    /// The rights of all lines, in the order of the lines. A keeper gets them once.
+    Rights(Vec<T>),
+    /// The rights were given before.
+    Given,
+}
 
 /// Whoever has the keeper sets the gate's flags, and gets the rights of all lines in the end.
 #[derive(Drop)]

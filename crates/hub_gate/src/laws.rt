@@ -3,8 +3,7 @@
 ghost use Rattle.hub_gate.specs.GateLaws.{RuleShowsGate, NoneInAfterRights, NoSeatInAfterRights};
 ghost use Rattle.hub_gate.specs.GateLaws.{EachStepChangesTheWord, TheWordShowsTheGate};
 
-use crate::gate_table::GateRule;
-use crate::right::Right;
+use crate::gate::{GateRule, Right};
 use crate::view::View;
 use atomic_table::TableRule;
 use std::snapshot::Snapshot;

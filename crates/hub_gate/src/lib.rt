@@ -6,29 +6,17 @@
 //! the keeper makes at most two steps on the word.
 #![tactic(auto)]
 
-mod entered;
 mod entry;
 mod gate;
-mod gate_error;
-mod gate_table;
-mod inside;
 mod keeper;
 mod laws;
-mod looked;
 mod plays;
-mod right;
 mod view;
-mod witness;
 mod word;
 
-pub use entered::{Entered, Refusal};
-pub use entry::Entry;
-pub use gate::Gate;
-pub use gate_error::GateError;
-pub use inside::Inside;
-pub use keeper::Keeper;
+pub use entry::{Entered, Entry, Inside, Refusal};
+pub use gate::{Gate, GateError, Right};
+pub use keeper::{Keeper, Looked};
 pub use laws::gate_laws;
-pub use looked::Looked;
-pub use right::Right;
-pub use witness::{EntryWitness, KeeperWitness};
+pub use view::{EntryWitness, KeeperWitness};
 pub use word::{closed_in, count_in, enabled_in, moved_in, word_of};

@@ -1,5 +1,5 @@
 //! What each step on a gate's word tells the seat that makes it.
-use crate::right::Right;
+use crate::gate::Right;
 use crate::view::View;
 use atomic_table::Play;
 use std::marker::PhantomData;

@@ -3,12 +3,12 @@ use Rattle.std.proofs.Common.{◌≡◌, ◌⊎◌, ℕ, ◌+◌, ◌-◌, ◌<�
 use Rattle.std.specs.Prelude.{nat_lt}
 use Rattle.std.specs.Result.{result_unwrap_or}
 use Rattle.std.proofs.lemmas.Bool.Decides.{nat_tests}
-use Rattle.hub_life.specs.declared.state.State.{State}
-use Rattle.hub_life.specs.declared.state.State.TheVariants.{Parsed, Installing, Installed, Activating, Activated, Redundant}
+use Rattle.hub_life.specs.declared.life.State.{State}
+use Rattle.hub_life.specs.declared.life.State.TheVariants.{Parsed, Installing, Installed, Activating, Activated, Redundant}
 use Rattle.hub_life.specs.declared.event.Event.{Event}
 use Rattle.hub_life.specs.declared.event.Event.TheVariants.{Install, Activate, Extend, Settle, Fail, Returned, Discard, Terminate}
-use Rattle.hub_life.specs.declared.life_error.LifeError.{LifeError}
-use Rattle.hub_life.specs.declared.life_error.LifeError.TheVariants.{WrongState, TooManyExtensions, NoExtension}
+use Rattle.hub_life.specs.declared.life.LifeError.{LifeError}
+use Rattle.hub_life.specs.declared.life.LifeError.TheVariants.{WrongState, TooManyExtensions, NoExtension}
 use Rattle.hub_envelope.specs.declared.limits.TheConstants.{MAX_EXTENSIONS}
 use Rattle.hub_life.specs.Lifecycle.{Progress, Cell, wrong, to, plus, minus, done, handles, entered, start, row, cell, at_cell, state_after, settled, is_failure}
 use Rattle.hub_life.specs.Course.{after, after_all, stage_of, is_waiting, IsSound}

@@ -7,7 +7,7 @@ use mathlib.Core.Option.{none, some, some-injective, some-ne-none}
 use lib.ListN.{get_elem?}
 use Rattle.atomic_table.specs.Table.{State, Me, step, keeps, stepped, opening, Allows, Splits}
 use Rattle.atomic_table.proofs.Lists.{at_set, at_snoc, set_again}
-use Rattle.hub_life.specs.declared.order_view.OrderView.{OrderView}
+use Rattle.hub_life.specs.declared.order.OrderView.{OrderView}
 use Rattle.hub_life.specs.Order.{unaware, gives_in, order_word, IsOrderKept, Gives, Looks}
 
 -- a sum after a change of one item

@@ -6,7 +6,7 @@ use Rattle.std.proofs.lemmas.Bool.Decides.{nat_tests}
 use mathlib.Core.Option.{some}
 use lib.ListN.{get_elem?}
 use Rattle.atomic_table.proofs.Lists.{at_index}
-use Rattle.hub_life.specs.declared.order_view.OrderView.{OrderView}
+use Rattle.hub_life.specs.declared.order.OrderView.{OrderView}
 use Rattle.hub_life.specs.Order.{unaware, gives_in, order_word, IsOrderKept, Gives, Looks}
 use Rattle.hub_life.specs.OrderLaws.{Shared, IsGiven, RuleShowsOrder, Steps, gives, looks, cuts, none_yet, one_more, IsStillGiven, StaysGiven}
 use Rattle.hub_life.proofs.OrderKept.{sum_by-at_set, weight_le_sum_by}

@@ -1,12 +1,12 @@
 -- The life of a service worker: its states, and what each event does there (W3C Service Workers, "Service Worker", "Install", "Activate").
 -- The events, the count of extensions and what a termination leads to are this project's profile of that standard.
 use Rattle.std.specs.Prelude.{ℕ, ◌+◌, ◌-◌, ◌||◌, Bool, true, false, Result, Ok, Err, nat_lt, if◌then◌else◌}
-use Rattle.hub_life.specs.declared.state.State.{State}
-use Rattle.hub_life.specs.declared.state.State.TheVariants.{Parsed, Installing, Installed, Activating, Activated, Redundant}
+use Rattle.hub_life.specs.declared.life.State.{State}
+use Rattle.hub_life.specs.declared.life.State.TheVariants.{Parsed, Installing, Installed, Activating, Activated, Redundant}
 use Rattle.hub_life.specs.declared.event.Event.{Event}
 use Rattle.hub_life.specs.declared.event.Event.TheVariants.{Install, Activate, Extend, Settle, Fail, Returned, Discard, Terminate}
-use Rattle.hub_life.specs.declared.life_error.LifeError.{LifeError}
-use Rattle.hub_life.specs.declared.life_error.LifeError.TheVariants.{WrongState, TooManyExtensions, NoExtension}
+use Rattle.hub_life.specs.declared.life.LifeError.{LifeError}
+use Rattle.hub_life.specs.declared.life.LifeError.TheVariants.{WrongState, TooManyExtensions, NoExtension}
 use Rattle.hub_envelope.specs.declared.limits.TheConstants.{MAX_EXTENSIONS}
 
 -- where a worker stands: its state, whether the handler of its event runs, how many extensions of that event are open, and whether one has failed

@@ -3,7 +3,7 @@ use Rattle.std.specs.Prelude.{◌≡◌, ℕ, ◌+◌, ◌<◌, ◌==◌, ◌||�
 use mathlib.Core.Option.{some}
 use lib.ListN.{get_elem?}
 use Rattle.atomic_table.specs.Table.{State, Me, Step}
-use Rattle.hub_life.specs.declared.order_view.OrderView.{OrderView}
+use Rattle.hub_life.specs.declared.order.OrderView.{OrderView}
 
 -- what a new seat knows
 abbrev pub unaware : OrderView

@@ -3,7 +3,7 @@ use Rattle.std.specs.Prelude.{◌≡◌, ℕ, ◌<◌, ◌↔◌, ◌++◌, Any,
 use mathlib.Core.Option.{none, some}
 use lib.ListN.{get_elem?}
 use Rattle.atomic_table.specs.Table.{State, Me, Step, Act, Valid, step, stepped, carried_after}
-use Rattle.hub_life.specs.declared.order_view.OrderView.{OrderView}
+use Rattle.hub_life.specs.declared.order.OrderView.{OrderView}
 
 -- the word of an order, with what each of its seats knows
 abbrev pub Shared : Type 0

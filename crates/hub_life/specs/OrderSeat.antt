@@ -1,7 +1,7 @@
 -- A seat at an order's word, as its callers see it.
 use Rattle.std.specs.Prelude.{ℕ, Bool, false, ◌||◌, nat_lt}
 use Rattle.atomic_table.specs.Seated.{TableId}
-use Rattle.hub_life.specs.declared.order_view.OrderView.{OrderView}
+use Rattle.hub_life.specs.declared.order.OrderView.{OrderView}
 
 -- which word the seat is at, how often it has given the order and looked for it, and whether its last look found it
 pub record OrderSeat : Type 0 where

@@ -2,14 +2,13 @@
 
 ghost use Rattle.std.specs.Prelude.{◌≡◌, ◌≤◌, ◌⊎◌, List, true};
 ghost use Rattle.hub_life.specs.declared.event.Event.{Event};
-ghost use Rattle.hub_life.specs.declared.state.State.TheVariants.{Installing, Activating};
-ghost use Rattle.hub_life.specs.declared.state.State.TheVariants.{Activated, Redundant};
+ghost use Rattle.hub_life.specs.declared.life.State.TheVariants.{Installing, Activating};
+ghost use Rattle.hub_life.specs.declared.life.State.TheVariants.{Activated, Redundant};
 ghost use Rattle.hub_life.specs.Lifecycle.{Progress, start};
 ghost use Rattle.hub_life.specs.Course.{after, after_all, stage_of, IsSound};
 ghost use Rattle.hub_life.specs.OrderLaws.{RuleShowsOrder, StaysGiven};
 
-use crate::order_view::OrderView;
-use crate::order_word::{Give, Look, OneMore, OrderRule};
+use crate::order::{Give, Look, OneMore, OrderRule, OrderView};
 use atomic_table::{Play, Split, TableRule};
 
 /// The laws of the table that `Life::event` answers by, over all events. It does nothing.

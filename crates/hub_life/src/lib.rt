@@ -8,16 +8,10 @@
 mod event;
 mod laws;
 mod life;
-mod life_error;
 mod order;
-mod order_view;
-mod order_word;
-mod state;
 
 pub use event::Event;
 pub use laws::{lifecycle_laws, order_laws};
-pub use life::Life;
-pub use life_error::LifeError;
+pub use life::{Life, LifeError, State};
 pub use order::Order;
-pub use state::State;
 pub use std::alloc::AllocError as OutOfMemory;

@@ -1,10 +1,34 @@
 ghost use Rattle.std.specs.Prelude.{◌≡◌, IfOk, IfErr, OnOk};
 
 use crate::event::Event;
-use crate::life_error::LifeError;
-use crate::state::State;
 use hub_envelope::MAX_EXTENSIONS;
 use std::marker::Model;
+use thiserror::Error;
+
+/// The state of a service worker (W3C Service Workers, "Service Worker"). A new one is parsed.
+#[derive(Clone, Copy, Debug, PartialEq, Eq, Hash)]
+pub enum State {
+    Parsed,
+    Installing,
+    Installed,
+    Activating,
+    Activated,
+    Redundant,
+}
+
+/// Why a worker refused an event. Its life is then as it was.
+#[derive(Clone, Copy, Debug, PartialEq, Eq, Hash, Drop, Error)]
+pub enum LifeError {
+    /// The event doesn't happen in this state.
+    #[error("wrong state")]
+    WrongState,
+    /// `MAX_EXTENSIONS` extensions are open.
+    #[error("too many extensions")]
+    TooManyExtensions,
+    /// No extension is open.
+    #[error("no extension")]
+    NoExtension,
+}
 
 /// The life of one service worker: its state and, while it is installing or activating, whether its
 /// handler still runs, how many extensions are open, and whether one has failed.

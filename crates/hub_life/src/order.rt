@@ -1,13 +1,65 @@
+//! The rule of the word that the seats of one order share, and what each step on it tells its seat.
+
 ghost use Rattle.std.specs.Prelude.{◌≡◌, ◌+◌, All, AllPairs, IfOk, IsTrue, vec_len};
 ghost use Rattle.std.specs.Arc.{arc_value};
 
 use crate::OutOfMemory;
-use crate::order_view::OrderView;
-use crate::order_word::{Give, Look, OneMore, OrderWord};
-use atomic_table::Seat;
+use atomic_table::{Play, Seat, Split, Table, TableRule};
 use std::alloc::Global;
 use std::marker::Model;
 use std::sync::Arc;
+
+/// One word, and no slot.
+pub type OrderWord = Table<(), OrderView, (), OrderRule, Global>;
+
+pub struct OrderRule;
+
+impl TableRule<(), OrderView, ()> for OrderRule {
+    ghost use Rattle.hub_life.specs.Order.{IsOrderKept, unaware};
+
+    ghost holds = { λ _. IsOrderKept };
+
+    ghost first = { λ _. unaware };
+}
+
+/// The order is given.
+pub struct Give;
+
+impl Play<(), OrderView> for Give {
+    ghost use Rattle.hub_life.specs.Order.{Gives};
+
+    ghost then = { Gives };
+}
+
+/// The order is looked for.
+pub struct Look;
+
+impl Play<(), OrderView> for Look {
+    ghost use Rattle.hub_life.specs.Order.{Looks};
+
+    ghost then = { Looks };
+}
+
+/// One more seat, which knows nothing yet.
+pub struct OneMore;
+
+impl Split<OrderView> for OneMore {
+    ghost use Rattle.hub_life.specs.Order.{unaware};
+
+    ghost left = { λ v. v };
+
+    ghost right = { λ _. unaware };
+}
+
+/// What one seat knows of an order. It stands in proofs alone: no value of it is made.
+pub struct OrderView {
+    /// How often the seat has given the order.
+    pub gives: u64,
+    /// How often the seat has looked for the order.
+    pub looks: u64,
+    /// Whether its last look found the order.
+    pub found: bool,
+}
 
 /// A seat at the word of one order. Seats of one word may lie on different threads.
 ///

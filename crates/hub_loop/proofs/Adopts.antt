@@ -1,7 +1,7 @@
 -- The ports of a delivery are adopted one after another.
 use Rattle.std.proofs.Common.{◌≡◌, Bool, true, false, List, [], ◌∷◌, ◌++◌, refl, sym, ap, ◌∙◌, subst, ⊎_elim, inl, inr, append_assoc, append-nil}
 use Rattle.slab.specs.Slab.{Slab, SameValues}
-use Rattle.hub_clients.specs.declared.handed_queue.HandedQueue.{HandedQueue}
+use Rattle.hub_clients.specs.declared.handed.HandedQueue.{HandedQueue}
 use Rattle.hub_clients.specs.Handing.{taker_of}
 use Rattle.hub_envelope.specs.declared.ids.EndId.{EndId}
 use Rattle.hub_ports.specs.Seats.{PortSeat}

@@ -2,8 +2,8 @@
 use Rattle.std.proofs.Common.{◌≡◌, ℕ, suc, ◌+◌, length, refl, sym, ap, ◌∙◌, subst, ⊎_elim, arith, Option, Some, None}
 use Rattle.hub_broadcast.specs.Members.{MemberSeat}
 use Rattle.hub_ports.specs.Seats.{PortSeat}
-use Rattle.hub_queue.specs.declared.took.Took.{Took}
-use Rattle.hub_queue.specs.declared.took.Took.TheVariants.{Again}
+use Rattle.hub_queue.specs.declared.taker.Took.{Took}
+use Rattle.hub_queue.specs.declared.taker.Took.TheVariants.{Again}
 use Rattle.hub_queue.specs.Counting.{Count}
 use Rattle.hub_queue.specs.Taking.{TakerSeat, IsTaken}
 use Rattle.hub_loop.specs.Asking.{Leaves, IsHeldTaken, IsHeldAsked}

@@ -9,8 +9,8 @@ use Rattle.hub_loop.specs.Closing.{IsOpenClosed}
 use Rattle.hub_loop.specs.Ending.{is_grave, is_open}
 use Rattle.hub_loop.specs.Noticing.{port_in}
 use Rattle.hub_loop.specs.Telling.{IsTold, NoticesMore}
-use Rattle.hub_loop.specs.declared.closed_end.ClosedEnd.{ClosedEnd}
-use Rattle.hub_loop.specs.declared.closed_port.ClosedPort.{ClosedPort}
+use Rattle.hub_loop.specs.declared.closed.ClosedEnd.{ClosedEnd}
+use Rattle.hub_loop.specs.declared.closed.ClosedPort.{ClosedPort}
 use Rattle.hub_loop.specs.declared.held.Held.TheVariants.{Port, Client, Worker, Member, Line}
 use Rattle.hub_loop.specs.States.{OpenState, open_held, open_arrived}
 use Rattle.hub_loop.proofs.Counted.{count-push}

@@ -3,7 +3,7 @@ use Rattle.std.proofs.Common.{◌≡◌, ℕ, ◌+◌, ◌++◌, Bool, List, [],
 use Rattle.std.specs.List.{count_by}
 use Rattle.std.specs.List.Sorted.{IsPermutation}
 use Rattle.slab.specs.Slab.{Slab}
-use Rattle.hub_clients.specs.declared.handed_queue.HandedQueue.{HandedQueue}
+use Rattle.hub_clients.specs.declared.handed.HandedQueue.{HandedQueue}
 use Rattle.hub_ports.specs.Seats.{PortSeat}
 use Rattle.hub_queue.specs.Graves.{GraveSeat}
 use Rattle.hub_loop.specs.declared.held.Held.{Held}

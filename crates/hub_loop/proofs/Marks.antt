@@ -3,13 +3,13 @@ use Rattle.std.proofs.Common.{◌≡◌, ◌≢◌, ℕ, Bool, List, [], ◌∷�
 use Rattle.std.specs.Prelude.{Result, Ok, Err}
 use Rattle.std.proofs.lemmas.Bool.{cases_eq}
 use Rattle.slab.specs.Slab.{Slab, get, SameValues, with_value}
-use Rattle.hub_bell.specs.declared.steps.BoardStep.{BoardStep}
+use Rattle.hub_bell.specs.declared.board.BoardStep.{BoardStep}
 use Rattle.hub_envelope.specs.declared.ids.EndId.{EndId}
 use Rattle.hub_marks.specs.declared.ready.Ready.{Ready}
 use Rattle.hub_marks.specs.Finding.{GrowsMarks, SameEntries}
 use Rattle.hub_marks.specs.Marking.{mark_of, HasBit, SameBut}
 use Rattle.hub_queue.specs.Counting.{Count}
-use Rattle.hub_queue.specs.declared.took.Took.{Took}
+use Rattle.hub_queue.specs.declared.taker.Took.{Took}
 use Rattle.hub_loop.specs.declared.held.Held.{Held}
 use Rattle.hub_loop.specs.declared.serving.Served.{Served}
 use Rattle.hub_loop.specs.declared.serving.Served.TheVariants.{Given, Nothing}

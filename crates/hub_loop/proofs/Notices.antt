@@ -7,11 +7,11 @@ use Rattle.std.proofs.lemmas.List.{map-append, map_push, reverse-append}
 use Rattle.std.proofs.lemmas.List.Kept.{IsNonDecreasingBy-filter}
 use Rattle.std.proofs.lemmas.List.Sums.{sum_by-append, sum_by-cons}
 use Rattle.slab.specs.Slab.{Slab}
-use Rattle.hub_clients.specs.declared.handed_queue.HandedQueue.{HandedQueue}
-use Rattle.hub_clients.specs.declared.handed_queue.HandedQueue.TheVariants as handed
+use Rattle.hub_clients.specs.declared.handed.HandedQueue.{HandedQueue}
+use Rattle.hub_clients.specs.declared.handed.HandedQueue.TheVariants as handed
 use Rattle.hub_ports.specs.Seats.{PortSeat}
 use Rattle.hub_queue.specs.Graves.{GraveSeat}
-use Rattle.hub_loop.specs.declared.closed_port.ClosedPort.{ClosedPort}
+use Rattle.hub_loop.specs.declared.closed.ClosedPort.{ClosedPort}
 use Rattle.hub_loop.specs.declared.held.Held.{Held}
 use Rattle.hub_loop.specs.declared.held.Held.TheVariants.{Port, Client, Worker, Member, Line}
 use Rattle.hub_loop.specs.Ending.{is_held, is_open, is_queue, slot_passes, queue_passes, is_grave, grave_ends, swept_ends, closing_ends, ends_in, passing_in}

@@ -6,8 +6,8 @@ use Rattle.std.proofs.lemmas.Bool.{cases_eq, cases_lt, cond_both}
 use Rattle.std.proofs.lemmas.List.{get_or_past, take_all}
 use Rattle.std.proofs.lemmas.List.Sums.{sum_by_more}
 use Rattle.slab.specs.Slab.{Slab, get}
-use Rattle.hub_queue.specs.declared.took.Took.{Took}
-use Rattle.hub_queue.specs.declared.took.Took.TheVariants.{Got, Empty, Busy, Again, Disabled, Closed}
+use Rattle.hub_queue.specs.declared.taker.Took.{Took}
+use Rattle.hub_queue.specs.declared.taker.Took.TheVariants.{Got, Empty, Busy, Again, Disabled, Closed}
 use Rattle.hub_queue.specs.Counting.{Count}
 use Rattle.hub_queue.specs.Taking.{TakerSeat, IsTaken}
 use Rattle.hub_loop.specs.Asking.{Leaves, IsAsked, IsHeldAsked}
@@ -18,7 +18,7 @@ use Rattle.hub_loop.specs.Turning.{IsDue}
 use Rattle.hub_loop.specs.declared.held.Held.{Held}
 use Rattle.hub_loop.specs.declared.serving.Served.TheVariants.{Nothing}
 use Rattle.hub_loop.specs.States.{DeliveryState, HoldingState}
-use Rattle.hub_bell.specs.declared.steps.BoardStep.{BoardStep}
+use Rattle.hub_bell.specs.declared.board.BoardStep.{BoardStep}
 use Rattle.hub_loop.proofs.Asks.{seat-with}
 
 -- one for a taker whose newest gate is enabled

@@ -5,7 +5,7 @@ use Rattle.slab.specs.Slab.{Slab, get, with_value}
 use Rattle.hub_envelope.specs.declared.ids.AgentId.{AgentId}
 use Rattle.hub_envelope.specs.declared.posted.Posted.{Posted}
 use Rattle.hub_marks.specs.declared.ready.Ready.{Ready}
-use Rattle.hub_ports.specs.declared.port_error.PortError.{PortError}
+use Rattle.hub_ports.specs.declared.error.PortError.{PortError}
 use Rattle.hub_ports.specs.Seats.{PortSeat}
 use Rattle.hub_loop.specs.declared.held.Held.{Held}
 use Rattle.hub_loop.specs.Holding.{end_held}

@@ -12,7 +12,7 @@ use Rattle.hub_loop.specs.declared.held.Held.{Held}
 use Rattle.hub_loop.specs.Holding.{end_held}
 use Rattle.hub_loop.specs.Reaching.{IsReached, AreReached}
 use Rattle.hub_loop.specs.Scanning.{IsListedAt}
-use Rattle.hub_queue.specs.declared.took.Took.{Took}
+use Rattle.hub_queue.specs.declared.taker.Took.{Took}
 use Rattle.hub_queue.specs.Counting.{Count}
 use Rattle.hub_loop.specs.declared.serving.Served.{Served}
 use Rattle.hub_loop.specs.Serving.{IsAskedAt, IsSlotAsked}

@@ -6,8 +6,8 @@ use Rattle.hub_envelope.specs.declared.envelope.Envelope.{Envelope}
 use Rattle.hub_marks.specs.Marking.{mark_of, ClearBetween, SameBut}
 use Rattle.hub_queue.specs.Counting.{Count}
 use Rattle.hub_loop.specs.declared.held.Held.{Held}
-use Rattle.hub_queue.specs.declared.took.Took.{Took}
-use Rattle.hub_queue.specs.declared.took.Took.TheVariants.{Got, Empty, Busy, Again, Disabled, Closed}
+use Rattle.hub_queue.specs.declared.taker.Took.{Took}
+use Rattle.hub_queue.specs.declared.taker.Took.TheVariants.{Got, Empty, Busy, Again, Disabled, Closed}
 use Rattle.hub_loop.specs.Asking.{IsHeldAsked}
 use Rattle.hub_loop.specs.Serving.{served_by, IsSlotAsked, IsTakenAtKey, IsAskedAt, AskedAll, HasGiven, HasOrder, IsIn}
 use Rattle.hub_loop.specs.Scanning.{EndsSeat, IsSameBut, AskedThese, GivenBehind, AskedBefore, AskedOrUnmarked, IsRange}

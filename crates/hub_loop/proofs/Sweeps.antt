@@ -5,7 +5,7 @@ use Rattle.std.proofs.lemmas.List.{map_push}
 use Rattle.hub_queue.specs.Graves.{GraveSeat, SweptSeat}
 use Rattle.hub_loop.specs.Ending.{grave_ends, swept_ends}
 use Rattle.hub_loop.specs.Noticing.{NamedBehind, port_numbers}
-use Rattle.hub_loop.specs.declared.closed_port.ClosedPort.{ClosedPort}
+use Rattle.hub_loop.specs.declared.closed.ClosedPort.{ClosedPort}
 
 -- the first grave was taken off
 pub taken-off : (graves left : List GraveSeat) (popped : Option GraveSeat) (g : GraveSeat) → graves ≡ option_to_list popped ++ left → popped ≡ Some g → grave_ends graves ≡ g.end ∷ grave_ends left

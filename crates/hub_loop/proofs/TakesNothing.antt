@@ -4,10 +4,10 @@ use Rattle.std.specs.Prelude.{Result, Ok, Err}
 use Rattle.slab.specs.Slab.{Slab, get}
 use Rattle.hub_envelope.specs.declared.envelope.Envelope.{Envelope}
 use Rattle.hub_envelope.specs.declared.ids.EndId.{EndId}
-use Rattle.hub_bell.specs.declared.steps.BoardStep.{BoardStep}
+use Rattle.hub_bell.specs.declared.board.BoardStep.{BoardStep}
 use Rattle.hub_ports.specs.Seats.{PortSeat}
-use Rattle.hub_queue.specs.declared.took.Took.{Took}
-use Rattle.hub_queue.specs.declared.took.Took.TheVariants.{Got, Empty, Busy, Again, Disabled, Closed}
+use Rattle.hub_queue.specs.declared.taker.Took.{Took}
+use Rattle.hub_queue.specs.declared.taker.Took.TheVariants.{Got, Empty, Busy, Again, Disabled, Closed}
 use Rattle.hub_queue.specs.Counting.{Count}
 use Rattle.hub_queue.specs.Taking.{TakerSeat, IsTaken}
 use Rattle.hub_loop.specs.Adopting.{Stored, IsOneAdopted, AreAdopted}
@@ -20,8 +20,8 @@ use Rattle.hub_loop.specs.Turning.{store_of, IsDue, IsTurn}
 use Rattle.hub_loop.specs.declared.held.Held.{Held}
 use Rattle.hub_loop.specs.States.{DeliveryState, HoldingState}
 use Rattle.hub_loop.specs.declared.serving.Served.TheVariants.{Given, Nothing}
-use Rattle.hub_loop.specs.declared.turn.Turn.{Turn}
-use Rattle.hub_loop.specs.declared.turn.Turn.TheVariants.{Delivered, Idle, Ending}
+use Rattle.hub_loop.specs.declared.handler.Turn.{Turn}
+use Rattle.hub_loop.specs.declared.handler.Turn.TheVariants.{Delivered, Idle, Ending}
 use Rattle.hub_loop.proofs.Asks.{seat-with, with-twice, with-own}
 use Rattle.std.proofs.lemmas.Bool.{cases_eq}
 

@@ -1,19 +1,19 @@
 -- What becomes of the ports that a delivery brings, and of a queue that was fetched.
 use Rattle.std.specs.Prelude.{◌≡◌, ◌⊎◌, ℕ, true, false, List, [], ◌∷◌, ◌++◌, Some, None, Result, Ok, Err, Bool}
 use Rattle.slab.specs.Slab.{Slab, get, Updates, SameValues}
-use Rattle.hub_clients.specs.declared.handed_queue.HandedQueue.{HandedQueue}
-use Rattle.hub_clients.specs.declared.handed_queue.HandedQueue.TheVariants as handed
+use Rattle.hub_clients.specs.declared.handed.HandedQueue.{HandedQueue}
+use Rattle.hub_clients.specs.declared.handed.HandedQueue.TheVariants as handed
 use Rattle.hub_clients.specs.Handing.{taker_of, IsAdoptedAndStarted}
 use Rattle.hub_envelope.specs.declared.ids.EndId.{EndId}
 use Rattle.hub_ports.specs.Adopting.{IsReceived}
 use Rattle.hub_ports.specs.Seats.{PortSeat, end_of}
-use Rattle.hub_queue.specs.declared.adopt_error.AdoptError.{AdoptError}
-use Rattle.hub_queue.specs.declared.adopt_error.AdoptError.TheVariants as why
+use Rattle.hub_queue.specs.declared.error.AdoptError.{AdoptError}
+use Rattle.hub_queue.specs.declared.error.AdoptError.TheVariants as why
 use Rattle.hub_queue.specs.Adopting.{IsAdopted}
 use Rattle.hub_queue.specs.Ending.{IsClosed}
 use Rattle.hub_queue.specs.Graves.{GraveSeat}
 use Rattle.hub_queue.specs.Taking.{TakerSeat}
-use Rattle.hub_loop.specs.declared.closed_port.ClosedPort.{ClosedPort}
+use Rattle.hub_loop.specs.declared.closed.ClosedPort.{ClosedPort}
 use Rattle.hub_loop.specs.declared.ending.Closed.{Closed}
 use Rattle.hub_loop.specs.declared.held.Held.{Held}
 use Rattle.hub_loop.specs.declared.held.Held.TheVariants.{Port, Client, Worker}

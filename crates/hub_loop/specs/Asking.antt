@@ -1,7 +1,7 @@
 -- What it comes to that a loop asks an end.
 use Rattle.std.specs.Prelude.{◌≡◌, ◌≢◌, ℕ, zero, suc, Option, Some, None}
-use Rattle.hub_queue.specs.declared.took.Took.{Took}
-use Rattle.hub_queue.specs.declared.took.Took.TheVariants.{Again}
+use Rattle.hub_queue.specs.declared.taker.Took.{Took}
+use Rattle.hub_queue.specs.declared.taker.Took.TheVariants.{Again}
 use Rattle.hub_queue.specs.Counting.{Count}
 use Rattle.hub_queue.specs.Taking.{TakerSeat, IsTaken}
 use Rattle.hub_loop.specs.declared.held.Held.{Held}

@@ -8,8 +8,8 @@ use Rattle.hub_broadcast.specs.Members.{SubscriptionSeat}
 use Rattle.hub_ports.specs.Seats.{PortSeat}
 use Rattle.hub_queue.specs.Ending.{IsClosed}
 use Rattle.hub_queue.specs.Taking.{TakerSeat}
-use Rattle.hub_loop.specs.declared.closed_end.ClosedEnd.{ClosedEnd}
-use Rattle.hub_loop.specs.declared.closed_port.ClosedPort.{ClosedPort}
+use Rattle.hub_loop.specs.declared.closed.ClosedEnd.{ClosedEnd}
+use Rattle.hub_loop.specs.declared.closed.ClosedPort.{ClosedPort}
 use Rattle.hub_loop.specs.declared.held.Held.{Held}
 use Rattle.hub_loop.specs.declared.held.Held.TheVariants.{Port, Client, Worker, Member, Line}
 use Rattle.hub_loop.specs.Adopting.{HoldsMore}

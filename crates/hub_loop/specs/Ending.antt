@@ -1,8 +1,8 @@
 -- How a loop ends.
 use Rattle.std.specs.Prelude.{ℕ, ◌+◌, ◌==◌, Bool, false, List, [], ◌++◌, map, count_by, Option, Some, None}
 use Rattle.slab.specs.Slab.{Slab}
-use Rattle.hub_clients.specs.declared.handed_queue.HandedQueue.{HandedQueue}
-use Rattle.hub_clients.specs.declared.handed_queue.HandedQueue.TheVariants as handed
+use Rattle.hub_clients.specs.declared.handed.HandedQueue.{HandedQueue}
+use Rattle.hub_clients.specs.declared.handed.HandedQueue.TheVariants as handed
 use Rattle.hub_clients.specs.Handing.{taker_of}
 use Rattle.hub_ports.specs.Seats.{PortSeat}
 use Rattle.hub_queue.specs.Graves.{GraveSeat, SweptSeat}

@@ -1,17 +1,17 @@
 -- All that a loop has, as one value.
 use Rattle.std.specs.Prelude.{◌≡◌, ℕ, Bool, List, Option, Some, None, Result}
 use Rattle.hub_bell.specs.Seats.{BoardSeat}
-use Rattle.hub_bell.specs.declared.steps.BoardStep.{BoardStep}
-use Rattle.hub_clients.specs.declared.handed_queue.HandedQueue.{HandedQueue}
+use Rattle.hub_bell.specs.declared.board.BoardStep.{BoardStep}
+use Rattle.hub_clients.specs.declared.handed.HandedQueue.{HandedQueue}
 use Rattle.hub_envelope.specs.declared.envelope.Envelope.{Envelope}
 use Rattle.hub_envelope.specs.declared.ids.EndId.{EndId}
 use Rattle.hub_life.specs.OrderSeat.{OrderSeat}
 use Rattle.hub_marks.specs.Finding.{HasStepped}
 use Rattle.hub_ports.specs.Seats.{PortSeat}
 use Rattle.hub_queue.specs.Counting.{Count}
-use Rattle.hub_loop.specs.declared.closed_port.ClosedPort.{ClosedPort}
-use Rattle.hub_loop.specs.declared.holding.Holding.{Holding}
-use Rattle.hub_loop.specs.declared.turn.Turn.{Turn}
+use Rattle.hub_loop.specs.declared.closed.ClosedPort.{ClosedPort}
+use Rattle.hub_loop.specs.declared.ends.Holding.{Holding}
+use Rattle.hub_loop.specs.declared.handler.Turn.{Turn}
 use Rattle.hub_loop.specs.Adopting.{closed_of}
 use Rattle.hub_loop.specs.Ending.{closing_ends, ends_in, passing_in}
 use Rattle.hub_loop.specs.Noticing.{AreEnded, SomeClosed, ports_in}

@@ -8,7 +8,7 @@ use Rattle.hub_marks.specs.declared.ready.Ready.{Ready}
 use Rattle.hub_ports.specs.Seats.{PortSeat}
 use Rattle.hub_queue.specs.Graves.{GraveSeat, SweptSeat}
 use Rattle.hub_queue.specs.Standing.{StandSeat}
-use Rattle.hub_loop.specs.declared.closed_port.ClosedPort.{ClosedPort}
+use Rattle.hub_loop.specs.declared.closed.ClosedPort.{ClosedPort}
 use Rattle.hub_loop.specs.declared.ending.Opened.{Opened}
 use Rattle.hub_loop.specs.declared.ending.Opened.TheVariants as opened
 use Rattle.hub_loop.specs.declared.held.Held.{Held}

@@ -2,7 +2,7 @@
 use Rattle.std.specs.Prelude.{◌≡◌, List, [], ◌∷◌, ◌++◌}
 use Rattle.hub_ports.specs.Closing.{IsToldAs}
 use Rattle.hub_ports.specs.Seats.{PortSeat}
-use Rattle.hub_loop.specs.declared.closed_port.ClosedPort.{ClosedPort}
+use Rattle.hub_loop.specs.declared.closed.ClosedPort.{ClosedPort}
 
 -- what is told of the port: its number, its line, and what became there of its notice
 abbrev pub IsTold : PortSeat → ClosedPort → Type 0

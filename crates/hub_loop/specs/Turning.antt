@@ -2,12 +2,12 @@
 use Rattle.std.specs.Prelude.{◌≡◌, ℕ, ◌+◌, Bool, List, [], Option, Some, None, Result, Ok, Err}
 use Rattle.hub_envelope.specs.declared.envelope.Envelope.{Envelope}
 use Rattle.hub_envelope.specs.declared.ids.EndId.{EndId}
-use Rattle.hub_bell.specs.declared.steps.BoardStep.{BoardStep}
+use Rattle.hub_bell.specs.declared.board.BoardStep.{BoardStep}
 use Rattle.hub_marks.specs.Marking.{mark_of}
 use Rattle.hub_queue.specs.Counting.{Count}
 use Rattle.hub_loop.specs.declared.serving.Served.TheVariants.{Given, Nothing}
-use Rattle.hub_loop.specs.declared.turn.Turn.{Turn}
-use Rattle.hub_loop.specs.declared.turn.Turn.TheVariants.{Delivered, Idle, Ending}
+use Rattle.hub_loop.specs.declared.handler.Turn.{Turn}
+use Rattle.hub_loop.specs.declared.handler.Turn.TheVariants.{Delivered, Idle, Ending}
 use Rattle.hub_loop.specs.Adopting.{Stored}
 use Rattle.hub_loop.specs.Delivering.{IsDelivered}
 use Rattle.hub_loop.specs.Serving.{AreServed}

@@ -35,10 +35,9 @@ ghost use Rattle.hub_loop.specs.declared.held.Held.TheVariants.{
   Line as LineHeld,
 };
 
-use crate::checkpoint::Checkpoint;
-use crate::closed_end::ClosedEnd;
+use crate::closed::ClosedEnd;
 use crate::event_loop::EventLoop;
-use crate::handler::Handler;
+use crate::handler::{Checkpoint, Handler};
 use crate::held::{Held, Kind};
 use crate::loop_error::LoopError;
 use hub_broadcast::{Member, Roster};

@@ -28,10 +28,10 @@ ghost use Rattle.hub_loop.specs.Adopting.{
 ghost use Rattle.hub_loop.specs.Marking.{AreMarked};
 ghost use Rattle.hub_marks.specs.Marking.{HasBit};
 
-use crate::closed_port::ClosedPort;
+use crate::closed::ClosedPort;
 use crate::delivery::Receiving;
+use crate::ends::Holding;
 use crate::held::Held;
-use crate::holding::Holding;
 use hub_clients::HandedQueue;
 use hub_envelope::{EndId, OutOfMemory};
 use hub_ports::{Hub, Port};

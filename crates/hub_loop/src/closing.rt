@@ -5,7 +5,7 @@ ghost use Rattle.std.specs.List.Sorted.{IsNonDecreasing};
 ghost use Rattle.hub_loop.specs.Ending.{is_grave, grave_ends, swept_ends, closing_ends};
 ghost use Rattle.hub_loop.specs.Noticing.{NamedBehind};
 
-use crate::closed_port::ClosedPort;
+use crate::closed::ClosedPort;
 use crate::delivery::Delivery;
 use crate::ending::Closed;
 use hub_clients::Directory;

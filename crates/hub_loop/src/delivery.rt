@@ -4,8 +4,8 @@ ghost use Rattle.hub_loop.specs.Delivering.{IsDelivered, IsLookedFor};
 ghost use Rattle.hub_loop.specs.Marking.{AreMarked};
 ghost use Rattle.hub_loop.specs.States.{ReceivingState};
 
+use crate::ends::Holding;
 use crate::handler::Handler;
-use crate::holding::Holding;
 use hub_envelope::{EndId, Envelope, OutOfMemory};
 use hub_ports::{Arrival, Arrived, Hub};
 use std::collections::VecDeque;

@@ -10,11 +10,10 @@ ghost use Rattle.hub_loop.specs.Looping.{
 };
 ghost use Rattle.hub_loop.specs.States.{OpenState};
 
-use crate::checkpoint::Checkpoint;
 use crate::closing::{Closing, Ended};
 use crate::ending::{Closed, leave_all, take_found, take_held, take_queues};
 use crate::event_loop::EventLoop;
-use crate::handler::Handler;
+use crate::handler::{Checkpoint, Handler};
 use crate::loop_error::LoopError;
 use hub_broadcast::Roster;
 use hub_clients::Directory;

@@ -37,8 +37,7 @@ ghost use Rattle.hub_loop.specs.Noticing.{ClosesLast, open_number, port_in};
 ghost use Rattle.hub_loop.specs.States.{OpenState, open_held};
 ghost use Rattle.hub_loop.specs.Telling.{NoticesMore};
 
-use crate::closed_end::ClosedEnd;
-use crate::closed_port::ClosedPort;
+use crate::closed::{ClosedEnd, ClosedPort};
 use crate::delivery::Delivery;
 use crate::held::Held;
 use hub_broadcast::Roster;

@@ -1,6 +1,6 @@
 //! The ends and the lines that a loop holds, each under its key.
 
-ghost use Rattle.std.specs.Prelude.{◌≡◌, Some, ◌≤◌, OnOk, IfErr, OnErr, IfSome, IfNone};
+ghost use Rattle.std.specs.Prelude.{◌≡◌, Some, ◌≤◌, OnOk, IfErr, OnErr, IfSome, IfNone, []};
 ghost use Rattle.slab.specs.Slab.{HasRoomFor, SameValues};
 ghost use Rattle.hub_loop.specs.Adopting.{HoldsMore};
 ghost use Rattle.hub_loop.specs.Holding.{end_held};
@@ -9,11 +9,14 @@ ghost use Rattle.hub_loop.specs.Marking.{AreMarked};
 ghost use Rattle.hub_loop.specs.Reaching.{AreReached};
 ghost use Rattle.hub_marks.specs.Marking.{HasBit};
 
+use crate::ending::Closed;
 use crate::held::{Held, Kind};
 use crate::loop_error::LoopError;
 use hub_envelope::{EndId, OutOfMemory};
 use hub_marks::Ready;
+use hub_queue::Bell;
 use slab::Slab;
+use std::alloc::Global;
 use std::collections::BTreeSet;
 
 /// The ends and the lines that a loop holds.
@@ -106,5 +109,42 @@ impl Ends {
         let key = self.find_end(Kind::End, end)?;
         self.ready.forget(end, key);
         self.held.try_remove(key)
+    }
+}
+
+/// What a loop holds, and the ports that it has closed because they could not be adopted.
+pub(crate) struct Holding {
+    pub(crate) bell: Bell,
+    pub(crate) ends: Ends,
+    /// The ports that could not be adopted.
+    pub(crate) closed: Closed,
+}
+
+// By hand, so that whoever drops one makes one call, and its proof has no cases of its fields.
+impl Drop for Holding {
+    fn drop(self) {
+        let Holding { bell, ends, closed } = self;
+        drop(bell);
+        drop(ends);
+        drop(closed);
+    }
+}
+
+impl Holding {
+    /// Nothing is held. It takes no memory.
+    pub(crate) fn new(alloc: Global, bell: Bell) -> Holding
+        ensures held { result.ends.held.slots ≡ [] }
+        ensures closed { result.closed.graves.items ≡ [] }
+    {
+        Holding {
+            bell,
+            ends: Ends {
+                held: Slab::new(alloc),
+                next: 0,
+                ready: Ready::new(alloc),
+                lines: BTreeSet::new(alloc),
+            },
+            closed: Closed::new(alloc),
+        }
     }
 }

@@ -1,4 +1,4 @@
-use hub_envelope::{EndId, Envelope, OutOfMemory};
+use hub_envelope::{AgentId, EndId, Envelope, OutOfMemory};
 use std::sync::Wait;
 
 /// What an agent does with a delivery.
@@ -24,4 +24,39 @@ pub trait Handler {
     ) -> Result<(), OutOfMemory>
         ensures ok { OnOk result (leaves self.old envelope.now missing.now self.new) }
         ensures err { OnErr result (refuses self.old envelope.now missing.now self.new) };
+}
+
+/// What a turn of a loop came to.
+#[derive(Clone, Copy, Debug, PartialEq, Eq, Hash)]
+pub enum Turn {
+    /// One envelope was delivered: the handler has taken note of it.
+    Delivered,
+    /// Each open end was asked, and none gave an envelope.
+    Idle {
+        /// Whether a poster was still inside a queue that was retired, at one of the enabled ends.
+        busy: bool,
+    },
+    /// The order to end was given.
+    Ending,
+}
+
+/// What is called before each delivery, as a test that holds an agent up.
+pub trait Checkpoint {
+    /// `point` is how many deliveries the loop of this agent has made before, from 0.
+    fn at<R: Wait>(&self, rt: &R, agent: AgentId, point: u64);
+}
+
+/// The checkpoint that is lent.
+impl<'c, C: Checkpoint> Checkpoint for &'c C {
+    fn at<R: Wait>(&self, rt: &R, agent: AgentId, point: u64) {
+        (**self).at(rt, agent, point);
+    }
+}
+
+/// No delivery is held up.
+#[derive(Clone, Copy, Debug, Drop)]
+pub struct NoCheckpoint;
+
+impl Checkpoint for NoCheckpoint {
+    fn at<R: Wait>(&self, _rt: &R, _agent: AgentId, _point: u64) {}
 }

@@ -15,8 +15,7 @@ ghost use Rattle.hub_loop.specs.declared.held.Held.TheVariants.{
   Line as LineHeld,
 };
 
-use crate::closed_end::ClosedEnd;
-use crate::closed_port::ClosedPort;
+use crate::closed::{ClosedEnd, ClosedPort};
 use hub_broadcast::{Member, Roster, leave_in};
 use hub_clients::{ClientQueue, WorkerQueue};
 use hub_envelope::EndId;

@@ -10,10 +10,9 @@ ghost use Rattle.hub_loop.specs.declared.held.Held.TheVariants.{
 ghost use Rattle.hub_ports.specs.Seats.{PortSeat};
 ghost use Rattle.hub_queue.specs.Standing.{StandSeat};
 
-use crate::checkpoint::Checkpoint;
 use crate::ends::Ends;
 use crate::event_loop::EventLoop;
-use crate::handler::Handler;
+use crate::handler::{Checkpoint, Handler};
 use crate::held::{Held, Kind};
 use hub_envelope::{AgentId, Body, EndId};
 use hub_ports::{Hub, Port, PortError, send};

@@ -1,7 +1,7 @@
 //! How a loop asks the ends that it holds, in the order of their keys.
 ghost use Rattle.std.specs.Prelude.{◌≡◌, ◌≤◌, length, List, true};
 ghost use Rattle.slab.specs.Slab.{get};
-ghost use Rattle.hub_bell.specs.declared.steps.BoardStep.{BoardStep};
+ghost use Rattle.hub_bell.specs.declared.board.BoardStep.{BoardStep};
 ghost use Rattle.hub_marks.specs.Finding.{HasStepped};
 ghost use Rattle.hub_marks.specs.Marking.{SameBut};
 ghost use Rattle.hub_loop.specs.Scanning.{

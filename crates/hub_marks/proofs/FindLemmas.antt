@@ -1,9 +1,9 @@
 -- What was read.
 use Rattle.std.proofs.Common.{◌≡◌, ℕ, zero, suc, ◌==◌, false, if◌then◌else◌, rules, slice_index, subst, append_assoc, ◌+◌, ◌*◌, ◌/◌, ◌%◌, ◌<◌, List, [], ◌∷◌, ◌++◌, inl, inr, refl, sym, ap, ◌∙◌, arith}
 use Rattle.std.proofs.lemmas.Bool.{cases_lt}
-use Rattle.hub_bell.specs.declared.steps.BoardStep.{BoardStep}
+use Rattle.hub_bell.specs.declared.board.BoardStep.{BoardStep}
 use Rattle.hub_envelope.specs.declared.ids.EndId.{EndId}
-use Rattle.hub_bell.specs.declared.steps.BoardStep.TheVariants.{Looked, Took}
+use Rattle.hub_bell.specs.declared.board.BoardStep.TheVariants.{Looked, Took}
 use Rattle.hub_bell.specs.Listening.{taking}
 use Rattle.hub_bell.specs.Ready.{names_word, bits_word}
 use Rattle.hub_bell.specs.Seats.{BoardSeat, Done}

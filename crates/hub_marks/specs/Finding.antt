@@ -1,8 +1,8 @@
 -- Which ends a loop finds at its listener.
 use Rattle.std.specs.Prelude.{◌≡◌, ◌⊎◌, ℕ, ◌+◌, ◌/◌, ◌%◌, ◌<◌, ◌≤◌, List, [], ◌∷◌, ◌++◌, length, slice_index, Option, Some, None}
 use Rattle.std.specs.Int.{bit_at}
-use Rattle.hub_bell.specs.declared.steps.BoardStep.{BoardStep}
-use Rattle.hub_bell.specs.declared.steps.BoardStep.TheVariants.{Looked, Set, Took, Stored}
+use Rattle.hub_bell.specs.declared.board.BoardStep.{BoardStep}
+use Rattle.hub_bell.specs.declared.board.BoardStep.TheVariants.{Looked, Set, Took, Stored}
 use Rattle.hub_bell.specs.Listening.{taking}
 use Rattle.hub_bell.specs.Ready.{names_word, bits_word}
 use Rattle.hub_bell.specs.Seats.{BoardSeat}

@@ -22,7 +22,7 @@ ghost use Rattle.std.specs.Prelude.{
   OnOk,
 };
 ghost use Rattle.std.specs.Int.{bit_at};
-ghost use Rattle.hub_bell.specs.declared.steps.BoardStep.{BoardStep};
+ghost use Rattle.hub_bell.specs.declared.board.BoardStep.{BoardStep};
 ghost use Rattle.hub_envelope.specs.declared.ids.EndId.{EndId as Number};
 ghost use Rattle.hub_marks.specs.Finding.{
   FindsAll,

@@ -3,9 +3,9 @@ use Rattle.std.proofs.Common.{arith, ◌≡◌, ℕ, zero, suc, ◌<◌, ◌≤�
 use Rattle.hub_envelope.specs.Notice.{notice_draft}
 use Rattle.hub_envelope.specs.declared.envelope.Draft.{Draft}
 use Rattle.hub_envelope.specs.declared.ids.EndId.{EndId}
-use Rattle.hub_queue.specs.declared.pass_view.PutView.{PutView}
-use Rattle.hub_queue.specs.declared.post_error.PostError.{PostError}
-use Rattle.hub_queue.specs.declared.post_error.PostError.TheVariants as why
+use Rattle.hub_queue.specs.declared.store.PutView.{PutView}
+use Rattle.hub_queue.specs.declared.error.PostError.{PostError}
+use Rattle.hub_queue.specs.declared.error.PostError.TheVariants as why
 use Rattle.hub_envelope.specs.declared.posted.Posted.{Posted}
 use Rattle.hub_queue.specs.Ending.{IsClosed, closed_queue}
 use Rattle.hub_queue.specs.Graves.{GraveSeat}
@@ -15,9 +15,9 @@ use Rattle.hub_queue.specs.Standing.{StandSeat}
 use Rattle.hub_queue.specs.TakerQueues.{TakerQueueSeat}
 use Rattle.hub_queue.specs.Taking.{TakerSeat}
 use Rattle.hub_queue.proofs.Below.{parts_snoc}
-use Rattle.hub_ports.specs.declared.closings.Closing.{Closing}
-use Rattle.hub_ports.specs.declared.noticed.Noticed.{Noticed}
-use Rattle.hub_ports.specs.declared.noticed.Noticed.TheVariants as noticed
+use Rattle.hub_ports.specs.declared.closing.Closing.{Closing}
+use Rattle.hub_ports.specs.declared.closing.Noticed.{Noticed}
+use Rattle.hub_ports.specs.declared.closing.Noticed.TheVariants as noticed
 use Rattle.hub_ports.specs.Closing.{IsNoticed, IsToldAs, IsDoomedAs, AreDoomed}
 use Rattle.hub_ports.specs.Seats.{PortSeat}
 

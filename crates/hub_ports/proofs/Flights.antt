@@ -7,14 +7,14 @@ use Rattle.std.proofs.Math.Seq.{drop-append_seam}
 use Rattle.std.proofs.lemmas.List.{drop_more, map-append}
 use Rattle.std.specs.declared.alloc.Global.{Global}
 use Rattle.std.specs.Cmp.{eq_by_cmp_equiv}
-use Rattle.hub_depot.specs.declared.key.Key.{Key}
+use Rattle.hub_depot.specs.declared.kept.Key.{Key}
 use Rattle.hub_depot.proofs.Keys.{keys_total}
 use Rattle.hub_depot.proofs.ManyPut.{remove-insert}
 use Rattle.hub_envelope.specs.declared.ids.EndId.{EndId}
 use Rattle.hub_ports.specs.Arriving.{Flight}
-use Rattle.hub_ports.specs.declared.port_error.PortError.{PortError}
-use Rattle.hub_ports.specs.declared.send_refusal.SendRefusal.{SendRefusal}
-use Rattle.hub_ports.specs.declared.send_refusal.SendRefusal.TheVariants.{Closed, Moving, OutOfMemory, Taken}
+use Rattle.hub_ports.specs.declared.error.PortError.{PortError}
+use Rattle.hub_ports.specs.declared.error.SendRefusal.{SendRefusal}
+use Rattle.hub_ports.specs.declared.error.SendRefusal.TheVariants.{Closed, Moving, OutOfMemory, Taken}
 use Rattle.hub_ports.specs.Flying.{in_flight, AreFree, HaveFlownBehind, GivesBack}
 use Rattle.hub_ports.specs.Refusing.{whole_error}
 use Rattle.hub_ports.specs.Seats.{PortSeat, end_of, ends_of, place_of}

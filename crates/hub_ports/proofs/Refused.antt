@@ -3,14 +3,14 @@ use Rattle.std.proofs.Common.{arith, ◌≡◌, ℕ, ◌<◌, List, [], ◌∷�
 use Rattle.std.specs.declared.alloc.Global.{Global}
 use Rattle.hub_envelope.specs.declared.envelope.Draft.{Draft}
 use Rattle.hub_envelope.specs.declared.ids.EndId.{EndId}
-use Rattle.hub_queue.specs.declared.post_error.PostError.{PostError}
-use Rattle.hub_queue.specs.declared.post_error.PostError.TheVariants as why
+use Rattle.hub_queue.specs.declared.error.PostError.{PostError}
+use Rattle.hub_queue.specs.declared.error.PostError.TheVariants as why
 use Rattle.hub_queue.specs.Posting.{IsPosted}
 use Rattle.hub_queue.specs.Standing.{StandSeat}
-use Rattle.hub_ports.specs.declared.port_error.PortError.{PortError}
-use Rattle.hub_ports.specs.declared.port_error.PortError.TheVariants as error
-use Rattle.hub_ports.specs.declared.send_refusal.SendRefusal.{SendRefusal}
-use Rattle.hub_ports.specs.declared.send_refusal.SendRefusal.TheVariants.{Closed, Moving, OutOfMemory, Taken}
+use Rattle.hub_ports.specs.declared.error.PortError.{PortError}
+use Rattle.hub_ports.specs.declared.error.PortError.TheVariants as error
+use Rattle.hub_ports.specs.declared.error.SendRefusal.{SendRefusal}
+use Rattle.hub_ports.specs.declared.error.SendRefusal.TheVariants.{Closed, Moving, OutOfMemory, Taken}
 use Rattle.hub_ports.specs.Refusing.{refusal_of, IsOfFlight, whole_error}
 use Rattle.hub_ports.specs.Seats.{PortSeat, ends_of}
 use Rattle.hub_ports.specs.Sending.{IsRefusedAtLine, CameBack, IsUnsent}

@@ -1,6 +1,6 @@
 -- What the adoption of a received port comes to.
 use Rattle.std.specs.Prelude.{◌≡◌, Result, Ok, Err}
-use Rattle.hub_queue.specs.declared.adopt_error.AdoptError.{AdoptError}
+use Rattle.hub_queue.specs.declared.error.AdoptError.{AdoptError}
 use Rattle.hub_queue.specs.Adopting.{IsAdopted}
 use Rattle.hub_ports.specs.Seats.{PortSeat}
 

@@ -3,7 +3,7 @@ use Rattle.std.specs.Prelude.{◌≡◌, ◌⊎◌, List, [], ◌∷◌, ◌++�
 use Rattle.std.specs.FinMap as map
 use Rattle.hub_envelope.specs.Notice.{notice_draft}
 use Rattle.hub_envelope.specs.declared.ids.EndId.{EndId}
-use Rattle.hub_queue.specs.declared.post_error.PostError.TheVariants as why
+use Rattle.hub_queue.specs.declared.error.PostError.TheVariants as why
 use Rattle.hub_queue.specs.Ending.{closed_queue}
 use Rattle.hub_queue.specs.Graves.{GraveSeat, SweptSeat}
 use Rattle.hub_queue.specs.Left.{unrung}
@@ -12,9 +12,9 @@ use Rattle.hub_queue.specs.Standing.{StandSeat}
 use Rattle.hub_queue.specs.Sweeping.{IsSweptOut}
 use Rattle.hub_queue.specs.TakerQueues.{TakerQueueSeat}
 use Rattle.hub_queue.specs.Taking.{TakerSeat}
-use Rattle.hub_ports.specs.declared.closings.Closing.{Closing}
-use Rattle.hub_ports.specs.declared.noticed.Noticed.{Noticed}
-use Rattle.hub_ports.specs.declared.noticed.Noticed.TheVariants.{Put, PeerClosed, Moving, OutOfMemory}
+use Rattle.hub_ports.specs.declared.closing.Closing.{Closing}
+use Rattle.hub_ports.specs.declared.closing.Noticed.{Noticed}
+use Rattle.hub_ports.specs.declared.closing.Noticed.TheVariants.{Put, PeerClosed, Moving, OutOfMemory}
 use Rattle.hub_ports.specs.Arriving.{Flight}
 use Rattle.hub_ports.specs.Seats.{PortSeat, end_of, place_of}
 

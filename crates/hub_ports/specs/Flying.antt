@@ -2,8 +2,8 @@
 use Rattle.std.specs.Prelude.{◌≡◌, List, [], ◌∷◌, ◌++◌, IsNone, Option, Some, Result, Ok, Err}
 use Rattle.std.specs.FinMap as map
 use Rattle.hub_envelope.specs.declared.posted.Posted.{Posted}
-use Rattle.hub_ports.specs.declared.port_error.PortError.{PortError}
-use Rattle.hub_ports.specs.declared.port_error.PortError.TheVariants.{Closed, Moving, OutOfMemory, Doomed, TooManyPorts, Strayed, Taken}
+use Rattle.hub_ports.specs.declared.error.PortError.{PortError}
+use Rattle.hub_ports.specs.declared.error.PortError.TheVariants.{Closed, Moving, OutOfMemory, Doomed, TooManyPorts, Strayed, Taken}
 use Rattle.hub_ports.specs.Arriving.{Flight}
 use Rattle.hub_ports.specs.Seats.{PortSeat, end_of, place_of}
 

@@ -1,12 +1,12 @@
 -- Why a message was not posted, and the error that is told.
 use Rattle.std.specs.Prelude.{ℕ, List, Vec}
 use Rattle.std.specs.declared.alloc.Global.{Global}
-use Rattle.hub_queue.specs.declared.post_error.PostError.{PostError}
-use Rattle.hub_queue.specs.declared.post_error.PostError.TheVariants as why
-use Rattle.hub_ports.specs.declared.port_error.PortError.{PortError}
-use Rattle.hub_ports.specs.declared.port_error.PortError.TheVariants as error
-use Rattle.hub_ports.specs.declared.send_refusal.SendRefusal.{SendRefusal}
-use Rattle.hub_ports.specs.declared.send_refusal.SendRefusal.TheVariants.{Closed, Moving, OutOfMemory, Taken}
+use Rattle.hub_queue.specs.declared.error.PostError.{PostError}
+use Rattle.hub_queue.specs.declared.error.PostError.TheVariants as why
+use Rattle.hub_ports.specs.declared.error.PortError.{PortError}
+use Rattle.hub_ports.specs.declared.error.PortError.TheVariants as error
+use Rattle.hub_ports.specs.declared.error.SendRefusal.{SendRefusal}
+use Rattle.hub_ports.specs.declared.error.SendRefusal.TheVariants.{Closed, Moving, OutOfMemory, Taken}
 use Rattle.hub_ports.specs.Seats.{PortSeat}
 
 -- the refusal of a line

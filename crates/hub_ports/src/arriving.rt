@@ -1,19 +1,91 @@
 //! How the ports that an envelope names are found in flight.
+
 ghost use Rattle.std.specs.Prelude.{◌≡◌, IfOk, IfSome, OnOk, OnErr};
 ghost use Rattle.std.specs.Option.{option_map};
 ghost use Rattle.hub_ports.specs.Arriving.{HasArrived, left_in_flight};
 ghost use Rattle.hub_ports.specs.Seats.{ends_of};
 ghost use Rattle.hub_ports.specs.Splitting.{IsSplit};
 
-use crate::arrival::Arrival;
-use crate::arrived::Arrived;
+use crate::closing::{Noticed, Spent, close_port};
 use crate::flight::place;
+use crate::hub::Hub;
 use crate::port::Port;
 use hub_depot::{Kept, take_in};
 use hub_envelope::{EndId, OutOfMemory};
 use hub_locked::Lends;
+use hub_queue::{AdoptError, Bell, Grave};
 use std::alloc::Global;
+use std::marker::Model;
 use std::sync::Wait;
+
+/// A port that was received and not yet adopted.
+#[derive(Drop)]
+pub struct Arrived {
+    pub(crate) port: Port,
+}
+
+impl Model for Arrived {
+    ghost use Rattle.hub_ports.specs.Seats.{PortSeat};
+
+    ghost Value = { PortSeat };
+
+    ghost view = { λ a. a.port };
+}
+
+impl Arrived {
+    ghost use Rattle.std.specs.Prelude.{◌≡◌};
+    ghost use Rattle.hub_queue.specs.Ending.{IsClosed};
+    ghost use Rattle.hub_ports.specs.Adopting.{IsReceived};
+    ghost use Rattle.hub_ports.specs.Closing.{IsNoticed};
+    ghost use Rattle.hub_ports.specs.Seats.{end_of};
+
+    /// The number of its end.
+    pub fn end(&self) -> EndId
+        ensures { result ≡ end_of self.now }
+    {
+        self.port.end()
+    }
+
+    /// Adopts the port for the loop that this bell wakes (WHATWG HTML, "Message ports": the
+    /// transfer-receiving steps). What waits for it moves along, it is disabled, and its peer is
+    /// the same.
+    ///
+    /// After an error it is as it was: the errors are those of `Taker::adopt`.
+    pub fn adopt<R: Wait>(
+        self,
+        rt: &R,
+        hub: &Hub,
+        bell: Bell,
+    ) -> Result<Port, (AdoptError, Arrived)>
+        ensures { IsReceived self result }
+    {
+        let (taker, poster) = self.port.into_parts();
+        match taker.adopt(rt, &hub.yard, bell) {
+            Ok(taker) => Ok(Port { taker, poster }),
+            Err((error, taker)) => {
+                let port = Port { taker, poster };
+                Err((error, Arrived { port }))
+            }
+        }
+    }
+
+    /// Closes the port, as `Port::close` does.
+    pub fn close<R: Wait>(self, rt: &R, hub: &Hub) -> (Grave, Spent, Noticed)
+        ensures grave { IsClosed self.taker result.0 }
+        ensures notice { IsNoticed self.poster result.1 result.2 }
+    {
+        close_port(rt, hub.alloc, &hub.yard, self.port)
+    }
+}
+
+/// The ports that a received envelope names, each list in the order of the envelope's.
+#[derive(Drop)]
+pub struct Arrival {
+    /// The ports that were found in flight.
+    pub found: Vec<Arrived>,
+    /// The numbers of those that were not.
+    pub missing: Vec<EndId>,
+}
 
 /// Takes the ports of these numbers out of flight, over a flight that anybody lends. After an error
 /// no port was taken.

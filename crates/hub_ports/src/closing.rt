@@ -1,4 +1,5 @@
 //! How a port is closed, and how all ports of a list are.
+
 ghost use Rattle.std.specs.Prelude.{◌≡◌, ◌≤◌, [], ◌∷◌, ◌++◌, length};
 ghost use Rattle.std.specs.Option.{option_map};
 ghost use Rattle.hub_envelope.specs.declared.limits.TheConstants.{MAX_PORTS};
@@ -6,17 +7,139 @@ ghost use Rattle.hub_queue.specs.Ending.{IsClosed};
 ghost use Rattle.hub_ports.specs.Closing.{IsNoticed, AreDoomed};
 ghost use Rattle.hub_ports.specs.Seats.{end_of};
 
-use crate::closing_step::ClosingStep;
-use crate::closings::{Closing, Closings};
-use crate::noticed::Noticed;
 use crate::port::Port;
-use crate::spent::Spent;
 use hub_depot::Depot;
-use hub_envelope::Draft;
+use hub_envelope::{Draft, EndId, MAX_PORTS};
 use hub_locked::{Hears, Unheard};
-use hub_queue::{Grave, Onward, PostError, Poster, Taker};
+use hub_queue::{Grave, LeftLine, Onward, PostError, Posted, Poster, ShutQueue, Taker};
 use std::alloc::Global;
+use std::array;
+use std::marker::Model;
 use std::sync::Wait;
+
+/// What was done with a port that is being closed.
+#[derive(Clone, Copy, Drop)]
+pub enum ClosingStep {
+    /// Its notice was put or refused.
+    Notice(Noticed),
+    /// Its own end, which has this number, was closed.
+    Close(EndId),
+}
+
+/// What became of the notice of a port that was closed. The port is closed in each case.
+#[derive(Clone, Copy, Debug, PartialEq, Eq)]
+pub enum Noticed {
+    /// It was accepted at the peer's end, under this name.
+    Put(Posted),
+    /// The peer is closed.
+    PeerClosed,
+    /// The peer has moved on, and the line could not follow it.
+    Moving,
+    /// There was no memory.
+    OutOfMemory,
+}
+
+/// The poster of a port that was closed. Contracts see by it what the notice came to; no call of it
+/// posts, so nothing is put on its line after the notice.
+#[derive(Drop)]
+pub struct Spent {
+    pub(crate) poster: Poster,
+}
+
+impl Model for Spent {
+    ghost use Rattle.hub_queue.specs.Standing.{StandSeat};
+
+    ghost Value = { StandSeat };
+
+    ghost view = { λ s. s.poster };
+}
+
+impl Spent {
+    ghost use Rattle.std.specs.Prelude.{◌≡◌, Some};
+    ghost use Rattle.hub_queue.specs.Left.{unrung};
+
+    /// What shows the line, in which a contract sees what the notice came to. It has no bytes.
+    pub fn into_left(self) -> LeftLine
+        ensures { result ≡ Some (unrung self) }
+    {
+        self.poster.into_left()
+    }
+}
+
+/// A port that a doomed message has closed.
+#[derive(Drop)]
+pub struct Closing {
+    /// The number of the port.
+    pub end: EndId,
+    // What shows its newest queue. That there is one is a byte, which stands where the number
+    // leaves room; what shows it, and the line, has none.
+    pub(crate) queue: Option<ShutQueue>,
+    // What shows the line on which the notice was put or refused.
+    pub(crate) line: LeftLine,
+    /// What became of its notice.
+    pub noticed: Noticed,
+}
+
+/// The ports that a doomed message has closed, in the order in which they were closed. It takes no
+/// memory.
+#[derive(Drop)]
+pub struct Closings {
+    closings: [Closing; MAX_PORTS],
+    count: usize,
+}
+
+impl Model for Closings {
+    ghost use Rattle.std.specs.Prelude.{List, take, ◌≤◌};
+    ghost use Rattle.hub_envelope.specs.declared.limits.TheConstants.{MAX_PORTS};
+    ghost use Rattle.hub_ports.specs.declared.closing.Closing.{Closing};
+
+    ghost Value = { List Closing };
+
+    ghost view = { λ c. take c.count c.closings };
+
+    ghost invariant = { λ c. c.count ≤ MAX_PORTS };
+}
+
+// No port: it holds the place of one.
+fn vacant() -> Closing {
+    Closing {
+        end: EndId(0),
+        queue: None,
+        line: LeftLine::none(),
+        noticed: Noticed::OutOfMemory,
+    }
+}
+
+impl Closings {
+    ghost use Rattle.std.specs.Prelude.{◌≡◌, ◌<◌, [], ◌∷◌, ◌++◌, length};
+    ghost use Rattle.hub_envelope.specs.declared.limits.TheConstants.{MAX_PORTS};
+
+    /// No port was closed yet.
+    pub(crate) fn none() -> Closings
+        ensures { result ≡ [] }
+    {
+        Closings {
+            closings: array::from_fn(|_| vacant()),
+            count: 0,
+        }
+    }
+
+    /// Adds the port that was closed last.
+    pub(crate) fn push(&mut self, closing: Closing)
+        requires { length self.old < MAX_PORTS }
+        ensures { self.new ≡ self.old ++ closing ∷ [] }
+    {
+        self.closings[self.count] = closing;
+        self.count += 1;
+    }
+
+    /// The ports in order of closing.
+    pub fn as_slice(&self) -> &[Closing]
+        ensures { result.now ≡ self.now }
+    {
+        &self.closings[..self.count]
+    }
+}
 
 // Posts the notice over the line of a port.
 fn post_notice<R: Wait>(rt: &R, alloc: Global, yard: &Depot<Onward>, poster: &mut Poster) -> Noticed

@@ -1,17 +1,23 @@
 //! Ports in flight: how the ports of a list are put there, and how they are taken back.
-ghost use Rattle.std.specs.Prelude.{◌≡◌, ◌+◌, ◌<◌, ◌≤◌, [], ◌++◌, List, take, length};
-ghost use Rattle.std.specs.Prelude.{vec_len, vec_capacity, Some, OnOk, OnErr, IfSome, IfErr};
+
+ghost use Rattle.std.specs.Prelude.{◌≡◌, ◌+◌, ◌<◌, ◌≤◌, [], ◌++◌, List, take, length, vec_len};
+ghost use Rattle.std.specs.Prelude.{vec_capacity, Some, OnOk, OnErr, IfSome, IfErr};
 ghost use Rattle.hub_ports.specs.Arriving.{Flight};
 ghost use Rattle.hub_ports.specs.Flying.{AreFree, HaveFlownBehind, in_flight};
 ghost use Rattle.hub_ports.specs.Refusing.{IsOfFlight};
 ghost use Rattle.hub_ports.specs.Seats.{PortSeat, ends_of, place_of};
 ghost use Rattle.hub_ports.specs.Splitting.{IsSplit};
+ghost use Rattle.std.specs.FinMap as map;
+ghost use Rattle.hub_ports.specs.Closing.{AreToldEmptied};
 
+use crate::closing::{Noticed, Spent, close_port};
+use crate::error::SendRefusal;
 use crate::port::Port;
-use crate::send_refusal::SendRefusal;
-use hub_depot::{DepotError, Kept, Key, put_in, take_in};
+use hub_depot::{Depot, DepotError, Kept, Key, put_in, take_in};
 use hub_envelope::{EndId, LineId};
-use hub_locked::Lends;
+use hub_locked::{Hears, Lends};
+use hub_queue::{Grave, Onward, Swept};
+use std::alloc::Global;
 use std::sync::Wait;
 
 /// The name under which a port waits in flight: its number, with epoch 0 and line 0.
@@ -85,4 +91,32 @@ pub(crate) fn call_back<L: Lends<Kept<Port>>, R: Wait>(
             None => missing.push_reserved(number),
         }
     }
+}
+
+/// Closes all ports in flight, each with its notice, and empties their ends, the closed end of an
+/// earlier call before them. The envelopes that are discarded there name ports by number; those of
+/// them that are in flight are met there. It tells of each end what is left of it.
+///
+/// After an error, which is want of memory, the end that was closed last comes back.
+pub fn close_flight<H: Hears<(Swept, Option<(Spent, Noticed)>)>, R: Wait>(
+    rt: &R,
+    alloc: Global,
+    yard: &Depot<Onward>,
+    grave: Option<Grave>,
+    flight: &mut Kept<Port>,
+    heard: &mut H,
+) -> Result<(), Grave>
+    ensures all { OnOk result (flight.new ≡ map.empty) }
+    ensures told { OnOk result (IfSome (H.told heard.old) (λ before.
+        AreToldEmptied grave flight.old map.empty before (H.told heard.new))) }
+{
+    match grave {
+        Some(grave) => heard.tell(rt, (grave.sweep_out(rt)?, None)),
+        None => {}
+    }
+    while let Some(port) = flight.take_any() {
+        let (grave, spent, noticed) = close_port(rt, alloc, yard, port);
+        heard.tell(rt, (grave.sweep_out(rt)?, Some((spent, noticed))));
+    }
+    Ok(())
 }

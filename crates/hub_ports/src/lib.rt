@@ -9,36 +9,18 @@
 //! the yard is the look-up there and nothing else.
 #![tactic(auto)]
 
-mod arrival;
-mod arrived;
 mod arriving;
-mod channel_error;
 mod closing;
-mod closing_step;
-mod closings;
-mod ending;
-mod entangling;
+mod error;
 mod flight;
 mod hub;
-mod noticed;
 mod port;
-mod port_error;
-mod send_refusal;
 mod sending;
-mod spent;
 
-pub use arrival::Arrival;
-pub use arrived::Arrived;
-pub use arriving::arrive_from;
-pub use channel_error::ChannelError;
-pub use closing::close_in_order;
-pub use closing_step::ClosingStep;
-pub use closings::{Closing, Closings};
-pub use ending::close_flight;
-pub use entangling::channel;
-pub use hub::Hub;
-pub use noticed::Noticed;
+pub use arriving::{Arrival, Arrived, arrive_from};
+pub use closing::{Closing, ClosingStep, Closings, Noticed, Spent, close_in_order};
+pub use error::{ChannelError, PortError};
+pub use flight::close_flight;
+pub use hub::{Hub, channel};
 pub use port::Port;
-pub use port_error::PortError;
 pub use sending::{send, send_with_ports};
-pub use spent::Spent;

@@ -1,10 +1,8 @@
-use crate::closing::close_port;
+use crate::closing::{Noticed, Spent, close_port};
+use crate::error::PortError;
 use crate::flight::place;
 use crate::hub::Hub;
-use crate::noticed::Noticed;
-use crate::port_error::PortError;
 use crate::sending::send;
-use crate::spent::Spent;
 use hub_depot::{Key, Named};
 use hub_envelope::{AgentId, Body, EndId};
 use hub_queue::{Grave, Posted, Poster, Steps, Taker, Took};

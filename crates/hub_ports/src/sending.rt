@@ -8,11 +8,10 @@ ghost use Rattle.hub_ports.specs.Seats.{ends_of, has_end};
 ghost use Rattle.hub_ports.specs.Sending.{IsSent, IsDoomed, IsTooMany};
 
 use crate::closing::close_all;
+use crate::error::{PortError, SendRefusal};
 use crate::flight::{call_back, send_off};
 use crate::hub::Hub;
 use crate::port::Port;
-use crate::port_error::PortError;
-use crate::send_refusal::SendRefusal;
 use hub_depot::Kept;
 use hub_envelope::{AgentId, Body, Draft, EndId, MAX_PORTS, OutOfMemory, Ports};
 use hub_locked::Lends;

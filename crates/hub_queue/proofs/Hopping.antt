@@ -2,16 +2,16 @@
 use Rattle.std.proofs.Common.{◌≡◌, ℕ, zero, suc, ◌+◌, ◌<◌, ◌≤◌, List, [], ◌∷◌, take, refl, sym, ap, ◌∙◌, subst, inl, inr, ⊎_elim, arith}
 use Rattle.std.specs.Prelude.{Option, Some, Result, Ok, Err}
 use Rattle.hub_envelope.specs.declared.limits.TheConstants.{MAX_HOPS}
-use Rattle.hub_depot.specs.declared.key.Key.{Key}
+use Rattle.hub_depot.specs.declared.kept.Key.{Key}
 use Rattle.hub_envelope.specs.declared.envelope.Draft.{Draft}
-use Rattle.hub_gate.specs.declared.entered.Refusal.{Refusal}
-use Rattle.hub_gate.specs.declared.entered.Refusal.TheVariants as refusal
+use Rattle.hub_gate.specs.declared.entry.Refusal.{Refusal}
+use Rattle.hub_gate.specs.declared.entry.Refusal.TheVariants as refusal
 use Rattle.hub_gate.specs.Entering.{left_seat}
 use Rattle.hub_gate.specs.GateSeats.{EntrySeat, InsideSeat, with_right}
-use Rattle.hub_queue.specs.declared.pass_view.PutView.{PutView}
+use Rattle.hub_queue.specs.declared.store.PutView.{PutView}
 use Rattle.hub_envelope.specs.declared.posted.Posted.{Posted}
-use Rattle.hub_queue.specs.declared.posting.Tried.TheVariants.{Answered, Turned}
-use Rattle.hub_queue.specs.declared.post_error.PostError.{PostError}
+use Rattle.hub_queue.specs.declared.stand.Tried.TheVariants.{Answered, Turned}
+use Rattle.hub_queue.specs.declared.error.PostError.{PostError}
 use Rattle.hub_queue.specs.Posting.{StaysAt, name_after, HasPassed, LeavesBehind, GoesTo, HasSeen, IsSeen, PutsNothing, IsPosted}
 use Rattle.hub_queue.specs.Putting.{IsPut}
 use Rattle.hub_queue.specs.Seats.{LineSeat, IsNameOf}

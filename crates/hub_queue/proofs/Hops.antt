@@ -4,15 +4,15 @@ use Rattle.std.specs.Ordering.{eq_by_cmp}
 use Rattle.std.specs.FinMap as map
 use Rattle.std.specs.FinMap.{get-remove}
 use Rattle.std.proofs.lemmas.Map.Views.{tells_apart}
-use Rattle.hub_depot.specs.declared.key.Key.{Key}
+use Rattle.hub_depot.specs.declared.kept.Key.{Key}
 use Rattle.hub_depot.specs.Key.{key_cmp}
 use Rattle.hub_depot.proofs.Keys.{exact_keys, keys_total}
 use Rattle.hub_envelope.specs.declared.envelope.Draft.{Draft}
-use Rattle.hub_queue.specs.declared.pass_view.PutView.{PutView}
+use Rattle.hub_queue.specs.declared.store.PutView.{PutView}
 use Rattle.hub_queue.specs.declared.pause.Point.{Point}
 use Rattle.hub_queue.specs.declared.pause.Point.TheVariants.{Before, Hopping}
 use Rattle.hub_envelope.specs.declared.posted.Posted.{Posted}
-use Rattle.hub_queue.specs.declared.post_error.PostError.{PostError}
+use Rattle.hub_queue.specs.declared.error.PostError.{PostError}
 use Rattle.hub_queue.specs.Posting.{StaysAt, name_after}
 use Rattle.hub_queue.specs.Standing.{StandSeat, IsNext}
 use Rattle.hub_queue.specs.Trying.{IsAnswered, gone_to}

@@ -4,9 +4,9 @@ use Rattle.std.proofs.lemmas.List.Elements.{filter-append}
 use Rattle.hub_envelope.specs.declared.envelope.Envelope.{Envelope}
 use Rattle.hub_core.specs.Sender.{by, Prefix}
 use Rattle.hub_core.proofs.Queueing.{queue_laws}
-use Rattle.hub_queue.specs.declared.pass_view.PassView.TheVariants.{Takes, Puts}
-use Rattle.hub_queue.specs.declared.took.Took.{Took}
-use Rattle.hub_queue.specs.declared.took.Took.TheVariants.{Got, Empty, Busy, Again, Disabled, Closed}
+use Rattle.hub_queue.specs.declared.store.PassView.TheVariants.{Takes, Puts}
+use Rattle.hub_queue.specs.declared.taker.Took.{Took}
+use Rattle.hub_queue.specs.declared.taker.Took.TheVariants.{Got, Empty, Busy, Again, Disabled, Closed}
 use Rattle.hub_queue.specs.Adopting.{retired_queue}
 use Rattle.hub_queue.specs.Counting.{Count}
 use Rattle.hub_queue.specs.Laws.{TakenIsPrefix, NothingTaken, ahead_of, NothingAhead, TakesInTurn, got_from, joined, ChainIsPrefix}

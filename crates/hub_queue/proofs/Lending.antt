@@ -9,10 +9,10 @@ use Rattle.crossbeam_queue.proofs.Lists.{at_set}
 use Rattle.hub_envelope.specs.declared.envelope.Envelope.{Envelope}
 use Rattle.hub_core.specs.Sender.{by, Prefix}
 use Rattle.hub_core.proofs.Items.{some_is, none_got}
-use Rattle.hub_queue.specs.declared.pass_view.PutView.{PutView}
-use Rattle.hub_queue.specs.declared.pass_view.TakeView.{TakeView}
-use Rattle.hub_queue.specs.declared.pass_view.PassView.{PassView}
-use Rattle.hub_queue.specs.declared.pass_view.PassView.TheVariants.{Takes, Puts, Both, Spent}
+use Rattle.hub_queue.specs.declared.store.PutView.{PutView}
+use Rattle.hub_queue.specs.declared.store.TakeView.{TakeView}
+use Rattle.hub_queue.specs.declared.store.PassView.{PassView}
+use Rattle.hub_queue.specs.declared.store.PassView.TheVariants.{Takes, Puts, Both, Spent}
 use Rattle.hub_queue.specs.SharedQueue.{SharedQueue, IsPutter, IsTaker, Knows, ShowsQueue}
 use Rattle.hub_queue.specs.PassSteps.{lent, lent_left, joined, taker_again, line_again, Learnt}
 use Rattle.hub_queue.proofs.Rule.{Spares, taken_stays, stays, know_set, know_snoc}

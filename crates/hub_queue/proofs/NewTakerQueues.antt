@@ -6,9 +6,9 @@ use Rattle.hub_envelope.specs.declared.envelope.Envelope.{Envelope}
 use Rattle.hub_core.specs.Sender.{by}
 use Rattle.hub_envelope.specs.declared.limits.TheConstants.{MAX_LINES}
 use Rattle.hub_gate.specs.GateSeats.{EntrySeat, KeeperSeat, IsOpened}
-use Rattle.hub_queue.specs.declared.pass_view.TakeView.{TakeView}
-use Rattle.hub_queue.specs.declared.pass_view.PassView.{PassView}
-use Rattle.hub_queue.specs.declared.pass_view.PassView.TheVariants.{Takes}
+use Rattle.hub_queue.specs.declared.store.TakeView.{TakeView}
+use Rattle.hub_queue.specs.declared.store.PassView.{PassView}
+use Rattle.hub_queue.specs.declared.store.PassView.TheVariants.{Takes}
 use Rattle.hub_queue.specs.Opening.{MayCut, new_right, new_rights, new_take, cut_so_far, IsOpenTakerQueue}
 use Rattle.hub_queue.specs.TakerQueues.{CountsTaken, tags_of, HasTags, KnowsBy}
 use Rattle.hub_queue.specs.Seats.{LineSeat, tag_of, take_in}

@@ -6,10 +6,10 @@ use Rattle.atomic_blocks.specs.Laid.{WebId}
 use Rattle.hub_envelope.specs.declared.limits.TheConstants.{MAX_LINES}
 use Rattle.hub_gate.specs.GateSeats.{KeeperSeat}
 use Rattle.hub_core.proofs.Items.{some_is, got_there, got-map}
-use Rattle.hub_queue.specs.declared.pass_view.PutView.{PutView}
-use Rattle.hub_queue.specs.declared.pass_view.TakeView.{TakeView}
-use Rattle.hub_queue.specs.declared.pass_view.PassView.{PassView}
-use Rattle.hub_queue.specs.declared.pass_view.PassView.TheVariants.{Takes, Puts}
+use Rattle.hub_queue.specs.declared.store.PutView.{PutView}
+use Rattle.hub_queue.specs.declared.store.TakeView.{TakeView}
+use Rattle.hub_queue.specs.declared.store.PassView.{PassView}
+use Rattle.hub_queue.specs.declared.store.PassView.TheVariants.{Takes, Puts}
 use Rattle.hub_queue.specs.PassSteps.{taken_in}
 use Rattle.hub_queue.specs.TakerQueues.{tags_of, HasTags, KnowsAll}
 use Rattle.hub_queue.specs.Seats.{LineSeat, tag_of}

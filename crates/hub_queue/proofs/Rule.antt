@@ -13,10 +13,10 @@ use Rattle.hub_core.specs.QueueMachine.{Queue, new_queue, IsNamed, MayPush, push
 use Rattle.hub_core.proofs.Queueing.{at_first_queue, after_push, after_pop, queue_laws}
 use Rattle.hub_core.proofs.Items.{some_is, none_got}
 use Rattle.hub_envelope.specs.declared.limits.TheConstants.{MAX_PUT}
-use Rattle.hub_queue.specs.declared.pass_view.PutView.{PutView}
-use Rattle.hub_queue.specs.declared.pass_view.TakeView.{TakeView}
-use Rattle.hub_queue.specs.declared.pass_view.PassView.{PassView}
-use Rattle.hub_queue.specs.declared.pass_view.PassView.TheVariants.{Takes, Puts, Both, Spent}
+use Rattle.hub_queue.specs.declared.store.PutView.{PutView}
+use Rattle.hub_queue.specs.declared.store.TakeView.{TakeView}
+use Rattle.hub_queue.specs.declared.store.PassView.{PassView}
+use Rattle.hub_queue.specs.declared.store.PassView.TheVariants.{Takes, Puts, Both, Spent}
 use Rattle.hub_queue.specs.SharedQueue.{SharedQueue, IsPutter, IsTakenIn, IsTaker, Knows, ShowsQueue, first_view}
 use Rattle.hub_queue.specs.PassSteps.{put_more, refused_more, refusal_counted, no_more, got_more, cut_more, next_put, known_more, after_put, after_take, taker_left, line_cut, taken_in, TellsOf, IsPopped, ShowsHeld, AccountsFor, Learnt}
 

@@ -4,7 +4,7 @@ use Rattle.std.specs.Prelude.{None}
 use Rattle.hub_envelope.specs.declared.envelope.Envelope.{Envelope}
 use Rattle.hub_core.specs.Sender.{by}
 use Rattle.hub_gate.specs.GateSeats.{KeeperSeat}
-use Rattle.hub_queue.specs.declared.pass_view.TakeView.{TakeView}
+use Rattle.hub_queue.specs.declared.store.TakeView.{TakeView}
 use Rattle.hub_queue.specs.PassSteps.{got_more, IsPopped, AccountsFor}
 use Rattle.hub_queue.specs.TakerQueues.{TakerQueueSeat, KnowsAll, KnowsBy, IsShut, SameGate, TakesMore, IsSettled}
 use Rattle.hub_queue.specs.Seats.{LineSeat}

@@ -6,11 +6,11 @@ use lib.ListN.{get_elem?}
 use Rattle.hub_envelope.specs.declared.envelope.Envelope.{Envelope}
 use Rattle.hub_envelope.specs.declared.ids.EndId.{EndId}
 use Rattle.hub_core.specs.Sender.{by, Prefix}
-use Rattle.hub_queue.specs.declared.pass_view.PutView.{PutView}
-use Rattle.hub_queue.specs.declared.pass_view.TakeView.{TakeView}
-use Rattle.hub_queue.specs.declared.pass_view.PassView.{PassView}
-use Rattle.hub_queue.specs.declared.pass_view.PassView.TheVariants.{Takes, Puts}
-use Rattle.hub_queue.specs.declared.took.Took.{Took}
+use Rattle.hub_queue.specs.declared.store.PutView.{PutView}
+use Rattle.hub_queue.specs.declared.store.TakeView.{TakeView}
+use Rattle.hub_queue.specs.declared.store.PassView.{PassView}
+use Rattle.hub_queue.specs.declared.store.PassView.TheVariants.{Takes, Puts}
+use Rattle.hub_queue.specs.declared.taker.Took.{Took}
 use Rattle.hub_queue.specs.Adopting.{IsMoved}
 use Rattle.hub_queue.specs.Counting.{Count}
 use Rattle.hub_queue.specs.Mailboxes.{IsOpenMailbox}

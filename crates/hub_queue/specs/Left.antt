@@ -1,9 +1,9 @@
 -- What shows a line that nobody posts over any more, and the newest queue of a closed end.
 use Rattle.std.specs.Prelude.{◌≡◌, List, [], ◌∷◌, ◌++◌, Option, Some, None}
 use Rattle.hub_bell.specs.Seats.{silent}
-use Rattle.hub_depot.specs.declared.key.Key.{Key}
+use Rattle.hub_depot.specs.declared.kept.Key.{Key}
 use Rattle.hub_gate.specs.GateSeats.{EntrySeat}
-use Rattle.hub_queue.specs.declared.pass_view.PutView.{PutView}
+use Rattle.hub_queue.specs.declared.store.PutView.{PutView}
 use Rattle.hub_queue.specs.Graves.{GraveSeat}
 use Rattle.hub_queue.specs.Seats.{LineSeat}
 use Rattle.hub_queue.specs.Standing.{StandSeat, right_in}

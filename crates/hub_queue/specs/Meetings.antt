@@ -1,7 +1,7 @@
 -- What a meeting of a poster and a taker comes to.
 use Rattle.std.specs.Prelude.{◌≡◌, ◌<◌, ◌≤◌, length}
 use Rattle.hub_core.specs.Sender.{by, Prefix}
-use Rattle.hub_gate.specs.declared.entered.Refusal.{Refusal}
+use Rattle.hub_gate.specs.declared.entry.Refusal.{Refusal}
 use Rattle.hub_queue.specs.declared.meeting.Meeting.{Meeting}
 use Rattle.hub_queue.specs.declared.meeting.Meeting.TheVariants.{Strangers, Turned, Met}
 use Rattle.hub_queue.specs.TakerQueues.{TakerQueueSeat}

@@ -3,7 +3,7 @@ use Rattle.std.specs.Prelude.{◌≡◌, ◌⊎◌, ℕ, zero, suc, List, [], �
 use Rattle.atomic_blocks.specs.Laid.{WebId}
 use Rattle.hub_gate.specs.GateRule.{keeper_at}
 use Rattle.hub_gate.specs.GateSeats.{EntrySeat, first_entries}
-use Rattle.hub_queue.specs.declared.pass_view.TakeView.{TakeView}
+use Rattle.hub_queue.specs.declared.store.TakeView.{TakeView}
 use Rattle.hub_queue.specs.TakerQueues.{TakerQueueSeat}
 use Rattle.hub_queue.specs.Seats.{LineSeat, tag_of}
 

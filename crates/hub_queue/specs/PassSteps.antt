@@ -3,10 +3,10 @@ use Rattle.std.specs.Prelude.{◌≡◌, ℕ, ◌+◌, ◌<◌, ◌≤◌, List,
 use Rattle.hub_envelope.specs.declared.envelope.Envelope.{Envelope}
 use Rattle.hub_core.specs.Sender.{by}
 use Rattle.hub_core.specs.QueueMachine.{Queue, IsNamed, IsQueue}
-use Rattle.hub_queue.specs.declared.pass_view.PutView.{PutView}
-use Rattle.hub_queue.specs.declared.pass_view.TakeView.{TakeView}
-use Rattle.hub_queue.specs.declared.pass_view.PassView.{PassView}
-use Rattle.hub_queue.specs.declared.pass_view.PassView.TheVariants.{Takes, Puts, Both, Spent}
+use Rattle.hub_queue.specs.declared.store.PutView.{PutView}
+use Rattle.hub_queue.specs.declared.store.TakeView.{TakeView}
+use Rattle.hub_queue.specs.declared.store.PassView.{PassView}
+use Rattle.hub_queue.specs.declared.store.PassView.TheVariants.{Takes, Puts, Both, Spent}
 use Rattle.hub_envelope.specs.declared.limits.TheConstants.{MAX_PUT}
 
 -- the line has put one envelope more

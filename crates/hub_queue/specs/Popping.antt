@@ -1,7 +1,7 @@
 -- What one pop comes to.
 use Rattle.std.specs.Prelude.{◌≡◌, [], Option, Some, None}
 use Rattle.hub_envelope.specs.declared.envelope.Envelope.{Envelope}
-use Rattle.hub_queue.specs.declared.pass_view.TakeView.{TakeView}
+use Rattle.hub_queue.specs.declared.store.TakeView.{TakeView}
 use Rattle.hub_queue.specs.PassSteps.{got_more, IsPopped, ShowsHeld, AccountsFor}
 
 -- An envelope: it is taken. None: nothing is taken, and what was taken is what a state of the queue machine has taken that holds nothing; of each line whose pass was taken in it is all that the line has put.

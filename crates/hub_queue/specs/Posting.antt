@@ -1,14 +1,14 @@
 -- What a post comes to.
 use Rattle.std.specs.Prelude.{◌≡◌, ◌⊎◌, ℕ, zero, suc, ◌+◌, ◌<◌, ◌≤◌, List, [], ◌∷◌, Option, Some, Result, Ok, Err}
 use Rattle.hub_envelope.specs.declared.limits.TheConstants.{MAX_HOPS}
-use Rattle.hub_depot.specs.declared.key.Key.{Key}
+use Rattle.hub_depot.specs.declared.kept.Key.{Key}
 use Rattle.hub_envelope.specs.declared.envelope.Draft.{Draft}
-use Rattle.hub_gate.specs.declared.entered.Refusal.{Refusal}
-use Rattle.hub_gate.specs.declared.entered.Refusal.TheVariants as refusal
-use Rattle.hub_queue.specs.declared.pass_view.PutView.{PutView}
+use Rattle.hub_gate.specs.declared.entry.Refusal.{Refusal}
+use Rattle.hub_gate.specs.declared.entry.Refusal.TheVariants as refusal
+use Rattle.hub_queue.specs.declared.store.PutView.{PutView}
 use Rattle.hub_envelope.specs.declared.posted.Posted.{Posted}
-use Rattle.hub_queue.specs.declared.post_error.PostError.{PostError}
-use Rattle.hub_queue.specs.declared.post_error.PostError.TheVariants.{Closed, Moving, OutOfMemory}
+use Rattle.hub_queue.specs.declared.error.PostError.{PostError}
+use Rattle.hub_queue.specs.declared.error.PostError.TheVariants.{Closed, Moving, OutOfMemory}
 use Rattle.hub_queue.specs.Putting.{IsPut, HadNoRoom}
 use Rattle.hub_gate.specs.GateSeats.{EntrySeat}
 use Rattle.hub_queue.specs.Seats.{LineSeat, IsNameOf}

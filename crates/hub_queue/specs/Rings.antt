@@ -6,9 +6,9 @@ use Rattle.hub_core.specs.GateMachine as machine
 use Rattle.hub_envelope.specs.declared.envelope.Draft.{Draft}
 use Rattle.hub_envelope.specs.declared.ids.EndId.{EndId}
 use Rattle.hub_envelope.specs.declared.posted.Posted.{Posted}
-use Rattle.hub_queue.specs.declared.posting.Tried.{Tried}
-use Rattle.hub_queue.specs.declared.posting.Tried.TheVariants.{Answered, Turned}
-use Rattle.hub_queue.specs.declared.post_error.PostError.{PostError}
+use Rattle.hub_queue.specs.declared.stand.Tried.{Tried}
+use Rattle.hub_queue.specs.declared.stand.Tried.TheVariants.{Answered, Turned}
+use Rattle.hub_queue.specs.declared.error.PostError.{PostError}
 use Rattle.hub_queue.specs.Posting.{StaysAt, GoesTo}
 use Rattle.hub_queue.specs.Standing.{StandSeat}
 

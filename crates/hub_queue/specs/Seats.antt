@@ -3,11 +3,11 @@ use Rattle.std.specs.Prelude.{◌≡◌, ℕ, List, [], ◌∷◌}
 use Rattle.atomic_blocks.specs.Laid.{WebId}
 use Rattle.atomic_blocks.specs.declared.web.Seat.{Seat}
 use Rattle.crossbeam_queue.specs.declared.seg_queue.Going.{Going}
-use Rattle.hub_depot.specs.declared.key.Key.{Key}
-use Rattle.hub_queue.specs.declared.pass_view.PutView.{PutView}
-use Rattle.hub_queue.specs.declared.pass_view.TakeView.{TakeView}
-use Rattle.hub_queue.specs.declared.pass_view.PassView.{PassView}
-use Rattle.hub_queue.specs.declared.pass_view.PassView.TheVariants.{Takes, Puts}
+use Rattle.hub_depot.specs.declared.kept.Key.{Key}
+use Rattle.hub_queue.specs.declared.store.PutView.{PutView}
+use Rattle.hub_queue.specs.declared.store.TakeView.{TakeView}
+use Rattle.hub_queue.specs.declared.store.PassView.{PassView}
+use Rattle.hub_queue.specs.declared.store.PassView.TheVariants.{Takes, Puts}
 
 -- the right of a line: which queue it is of, and what the line's pass knows
 pub record LineSeat : Type 0 where

@@ -3,7 +3,7 @@ use Rattle.std.specs.Prelude.{◌≡◌, ℕ, ◌<◌, Bool, true, false, List, 
 use Rattle.hub_envelope.specs.declared.envelope.Envelope.{Envelope}
 use Rattle.hub_gate.specs.GateSeats.{KeeperSeat}
 use Rattle.hub_gate.specs.GatePlays.{looked_keeper}
-use Rattle.hub_queue.specs.declared.pass_view.TakeView.{TakeView}
+use Rattle.hub_queue.specs.declared.store.TakeView.{TakeView}
 use Rattle.hub_queue.specs.PassSteps.{ShowsHeld, AccountsFor}
 use Rattle.hub_queue.specs.TakerQueues.{TakerQueueSeat, KnowsAll, TakesMore, IsHeldUp, IsSettled, IsShut}
 use Rattle.hub_queue.specs.Popping.{IsPop}

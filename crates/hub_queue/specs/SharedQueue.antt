@@ -5,10 +5,10 @@ use lib.ListN.{get_elem?}
 use Rattle.hub_envelope.specs.declared.envelope.Envelope.{Envelope}
 use Rattle.hub_core.specs.QueueMachine.{Queue, IsQueue}
 use Rattle.hub_envelope.specs.declared.limits.TheConstants.{MAX_PUT}
-use Rattle.hub_queue.specs.declared.pass_view.PutView.{PutView}
-use Rattle.hub_queue.specs.declared.pass_view.TakeView.{TakeView}
-use Rattle.hub_queue.specs.declared.pass_view.PassView.{PassView}
-use Rattle.hub_queue.specs.declared.pass_view.PassView.TheVariants.{Takes, Puts, Both, Spent}
+use Rattle.hub_queue.specs.declared.store.PutView.{PutView}
+use Rattle.hub_queue.specs.declared.store.TakeView.{TakeView}
+use Rattle.hub_queue.specs.declared.store.PassView.{PassView}
+use Rattle.hub_queue.specs.declared.store.PassView.TheVariants.{Takes, Puts, Both, Spent}
 
 -- a queue that threads share: its end and epoch, how many lines have got a pass, its state, and by number which pass is the taker's and which one each line has
 pub record SharedQueue : Type 0 where

@@ -1,11 +1,11 @@
 -- Where a line stands, and what it has put there.
 use Rattle.std.specs.Prelude.{◌≡◌, ◌+◌, ◌≤◌, List, [], replicate, Option, Some, None}
 use Rattle.hub_envelope.specs.declared.limits.TheConstants.{MAX_HOPS, MAX_MOVES}
-use Rattle.hub_depot.specs.declared.key.Key.{Key}
+use Rattle.hub_depot.specs.declared.kept.Key.{Key}
 use Rattle.hub_bell.specs.Seats.{Done, silent}
 use Rattle.hub_gate.specs.GateRule.{new_line}
 use Rattle.hub_gate.specs.GateSeats.{EntrySeat}
-use Rattle.hub_queue.specs.declared.pass_view.PutView.{PutView}
+use Rattle.hub_queue.specs.declared.store.PutView.{PutView}
 use Rattle.hub_queue.specs.Seats.{LineSeat, IsNameOf}
 
 -- the name of the line at the queue where it stands, its entry at the gate of that queue, what its bell has done, and the entries at the gates that it left in the last post that went on, the last one first

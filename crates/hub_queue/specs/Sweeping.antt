@@ -3,7 +3,7 @@ use Rattle.std.specs.Prelude.{◌≡◌, ◌⊎◌, ℕ, ◌+◌, ◌<◌, Bool,
 use Rattle.std.specs.List.{AllByRecursion}
 use Rattle.hub_envelope.specs.declared.envelope.Envelope.{Envelope}
 use Rattle.hub_core.specs.Sender.{by}
-use Rattle.hub_queue.specs.declared.pass_view.PutView.{PutView}
+use Rattle.hub_queue.specs.declared.store.PutView.{PutView}
 use Rattle.hub_queue.specs.declared.grave.Sweep.{Sweep}
 use Rattle.hub_queue.specs.declared.grave.Sweep.TheVariants.{Discarded, StillInside, NoRoom}
 use Rattle.hub_queue.specs.declared.settling.Stop.{Stop}

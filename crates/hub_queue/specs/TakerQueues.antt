@@ -7,8 +7,8 @@ use Rattle.hub_envelope.specs.declared.limits.TheConstants.{MAX_LINES}
 use Rattle.hub_gate.specs.GateRule.{Tags}
 use Rattle.hub_gate.specs.GatePlays.{has_shut}
 use Rattle.hub_gate.specs.GateSeats.{KeeperSeat}
-use Rattle.hub_queue.specs.declared.pass_view.PutView.{PutView}
-use Rattle.hub_queue.specs.declared.pass_view.TakeView.{TakeView}
+use Rattle.hub_queue.specs.declared.store.PutView.{PutView}
+use Rattle.hub_queue.specs.declared.store.TakeView.{TakeView}
 use Rattle.hub_queue.specs.Seats.{LineSeat}
 
 -- which queue it is, what the taker's pass knows of it, and what the keeper of its gate knows

@@ -1,16 +1,16 @@
 -- What a post at the queue where the line stands comes to, and what becomes of a line that was turned.
 use Rattle.std.specs.Prelude.{◌≡◌, ◌⊎◌, ℕ, ◌∷◌, take, Option, Some, Result, Ok, Err}
 use Rattle.hub_envelope.specs.declared.envelope.Draft.{Draft}
-use Rattle.hub_gate.specs.declared.entered.Refusal.{Refusal}
-use Rattle.hub_gate.specs.declared.entered.Refusal.TheVariants as refusal
+use Rattle.hub_gate.specs.declared.entry.Refusal.{Refusal}
+use Rattle.hub_gate.specs.declared.entry.Refusal.TheVariants as refusal
 use Rattle.hub_gate.specs.Entering.{left_seat}
 use Rattle.hub_gate.specs.GateSeats.{EntrySeat, InsideSeat, with_right}
 use Rattle.hub_envelope.specs.declared.posted.Posted.{Posted}
-use Rattle.hub_queue.specs.declared.posting.Tried.{Tried}
-use Rattle.hub_queue.specs.declared.posting.Tried.TheVariants.{Answered, Turned}
-use Rattle.hub_queue.specs.declared.post_error.PostError.{PostError}
-use Rattle.hub_queue.specs.declared.post_error.PostError.TheVariants.{Closed, Moving, OutOfMemory}
-use Rattle.hub_queue.specs.declared.pass_view.PutView.{PutView}
+use Rattle.hub_queue.specs.declared.stand.Tried.{Tried}
+use Rattle.hub_queue.specs.declared.stand.Tried.TheVariants.{Answered, Turned}
+use Rattle.hub_queue.specs.declared.error.PostError.{PostError}
+use Rattle.hub_queue.specs.declared.error.PostError.TheVariants.{Closed, Moving, OutOfMemory}
+use Rattle.hub_queue.specs.declared.store.PutView.{PutView}
 use Rattle.hub_queue.specs.Posting.{StaysAt, GoesTo, HasSeen, IsSeen, PutsNothing}
 use Rattle.hub_queue.specs.Putting.{IsPut, HadNoRoom}
 use Rattle.hub_queue.specs.Seats.{LineSeat, IsNameOf}

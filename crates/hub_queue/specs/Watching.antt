@@ -2,15 +2,15 @@
 use Rattle.std.specs.Prelude.{ℕ, zero, suc, List, [], ◌∷◌, ◌++◌, nat_lt, if◌then◌else◌, Option, Result, Ok, Err}
 use Rattle.std.specs.Option.{option_map}
 use Rattle.hub_envelope.specs.declared.limits.TheConstants.{MAX_HOPS}
-use Rattle.hub_depot.specs.declared.key.Key.{Key}
+use Rattle.hub_depot.specs.declared.kept.Key.{Key}
 use Rattle.hub_envelope.specs.declared.envelope.Draft.{Draft}
 use Rattle.hub_queue.specs.declared.pause.Point.{Point}
 use Rattle.hub_queue.specs.declared.pause.Point.TheVariants.{Before, Inside, Pushed, Hopping}
 use Rattle.hub_envelope.specs.declared.posted.Posted.{Posted}
-use Rattle.hub_queue.specs.declared.posting.Tried.{Tried}
-use Rattle.hub_queue.specs.declared.posting.Tried.TheVariants.{Answered, Turned}
-use Rattle.hub_queue.specs.declared.post_error.PostError.{PostError}
-use Rattle.hub_queue.specs.declared.post_error.PostError.TheVariants.{Closed, Moving, OutOfMemory}
+use Rattle.hub_queue.specs.declared.stand.Tried.{Tried}
+use Rattle.hub_queue.specs.declared.stand.Tried.TheVariants.{Answered, Turned}
+use Rattle.hub_queue.specs.declared.error.PostError.{PostError}
+use Rattle.hub_queue.specs.declared.error.PostError.TheVariants.{Closed, Moving, OutOfMemory}
 use Rattle.hub_queue.specs.Yards.{hops_between}
 
 -- these points more were told, where what was told is shown

@@ -2,12 +2,12 @@
 use Rattle.std.specs.Prelude.{◌≡◌, ◌⊎◌, ℕ, zero, suc, ◌-◌, ◌<◌, Option, Some, None, Result, Ok, Err}
 use Rattle.std.specs.FinMap as map
 use Rattle.hub_envelope.specs.declared.limits.TheConstants.{MAX_HOPS}
-use Rattle.hub_depot.specs.declared.key.Key.{Key}
+use Rattle.hub_depot.specs.declared.kept.Key.{Key}
 use Rattle.hub_depot.specs.Key.{key_cmp}
 use Rattle.hub_envelope.specs.declared.envelope.Draft.{Draft}
 use Rattle.hub_envelope.specs.declared.posted.Posted.{Posted}
-use Rattle.hub_queue.specs.declared.post_error.PostError.{PostError}
-use Rattle.hub_queue.specs.declared.post_error.PostError.TheVariants.{Closed, Moving, OutOfMemory}
+use Rattle.hub_queue.specs.declared.error.PostError.{PostError}
+use Rattle.hub_queue.specs.declared.error.PostError.TheVariants.{Closed, Moving, OutOfMemory}
 use Rattle.hub_queue.specs.Posting.{name_after}
 use Rattle.hub_queue.specs.Standing.{StandSeat, right_of}
 

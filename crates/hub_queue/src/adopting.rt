@@ -7,11 +7,11 @@ ghost use Rattle.hub_queue.specs.Adopting.{IsRefused, KeepsName};
 ghost use Rattle.hub_queue.specs.Mailboxes.{IsNewTakerQueue, stands_at};
 ghost use Rattle.hub_queue.specs.Opening.{IsOpenTakerQueue};
 
-use crate::adopt_error::AdoptError;
-use crate::left_gates::LeftGates;
+use crate::error::AdoptError;
+use crate::left::LeftGates;
 use crate::line_right::LineRight;
+use crate::mailbox::open_taker_queue;
 use crate::onward::Onward;
-use crate::opening::open_taker_queue;
 use crate::stand::Stand;
 use crate::taker_queue::TakerQueue;
 use hub_bell::Bell;

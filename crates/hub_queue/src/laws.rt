@@ -2,8 +2,8 @@
 
 ghost use Rattle.hub_queue.specs.Laws.{RuleShowsQueue, TakenIsPrefix, TakesInTurn, ChainIsPrefix};
 
-use crate::pass_view::PassView;
 use crate::queue_rule::QueueRule;
+use crate::store::PassView;
 use crossbeam_queue::protocol::Protocol;
 use hub_envelope::Envelope;
 

@@ -1,7 +1,7 @@
 ghost use Rattle.std.specs.Prelude.{◌≡◌};
 ghost use Rattle.crossbeam_queue.specs.SegSteps.{IsRefused};
 ghost use Rattle.crossbeam_queue.specs.SegTies.{IsSegPassOf};
-ghost use Rattle.hub_queue.specs.declared.pass_view.PassView.TheVariants.{Puts};
+ghost use Rattle.hub_queue.specs.declared.store.PassView.TheVariants.{Puts};
 ghost use Rattle.hub_queue.specs.PassSteps.{refused_more};
 ghost use Rattle.hub_queue.specs.Putting.{IsPut, unnamed};
 ghost use Rattle.hub_queue.specs.Seats.{IsNameOf, known_by, put_in};
@@ -29,7 +29,7 @@ impl Model for LineRight {
     ghost use Rattle.std.specs.Prelude.{◌≡◌, length};
     ghost use Rattle.std.specs.Arc.{arc_value};
     ghost use Rattle.crossbeam_queue.specs.SegTies.{IsSegPassOf};
-    ghost use Rattle.hub_queue.specs.declared.pass_view.PassView.TheVariants.{Puts};
+    ghost use Rattle.hub_queue.specs.declared.store.PassView.TheVariants.{Puts};
     ghost use Rattle.hub_queue.specs.Seats.{LineSeat, known_by, put_in};
 
     ghost Value = { LineSeat };

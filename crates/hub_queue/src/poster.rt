@@ -4,9 +4,9 @@ ghost use Rattle.hub_queue.specs.Rings.{HasRung};
 ghost use Rattle.hub_queue.specs.Watching.{points_of, told_more};
 ghost use Rattle.hub_queue.specs.Yards.{IsHoppedOver};
 
+use crate::error::PostError;
 use crate::onward::Onward;
 use crate::pause::{NoPause, Pause, Paused, Point};
-use crate::post_error::PostError;
 use crate::stand::Stand;
 use hub_depot::{Depot, Kept, Key};
 use hub_envelope::{Draft, Posted};

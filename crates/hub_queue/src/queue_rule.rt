@@ -1,7 +1,7 @@
 //! The rule of a queue that threads share, and what its passes may do.
 ghost use Rattle.std.specs.Prelude.{ℕ};
 
-use crate::pass_view::PassView;
+use crate::store::PassView;
 use crossbeam_queue::protocol::{Join, Lesson, Outcome, Protocol, Split};
 use hub_envelope::Envelope;
 use std::marker::{Brand, PhantomData};
@@ -73,7 +73,7 @@ impl<N: QueueName> Split<PassView> for CutLine<N> {
 pub struct TakeIn;
 
 impl Join<PassView> for TakeIn {
-    ghost use Rattle.hub_queue.specs.declared.pass_view.PassView.TheVariants.{Spent};
+    ghost use Rattle.hub_queue.specs.declared.store.PassView.TheVariants.{Spent};
     ghost use Rattle.hub_queue.specs.PassSteps.{taken_in};
 
     ghost both = { taken_in };
@@ -107,7 +107,7 @@ impl Split<PassView> for Lend {
 pub struct Compare;
 
 impl Join<PassView> for Compare {
-    ghost use Rattle.hub_queue.specs.declared.pass_view.PassView.TheVariants.{Spent};
+    ghost use Rattle.hub_queue.specs.declared.store.PassView.TheVariants.{Spent};
     ghost use Rattle.hub_queue.specs.PassSteps.{joined};
 
     ghost both = { joined };

@@ -1,14 +1,14 @@
 //! How the passes of all lines of a queue come into the taker's hand, and what is left is taken.
 ghost use Rattle.std.specs.Prelude.{◌≡◌, map, length};
 ghost use Rattle.crossbeam_queue.specs.SegTies.{IsSegPassOf};
-ghost use Rattle.hub_queue.specs.declared.pass_view.PassView.TheVariants.{Takes};
+ghost use Rattle.hub_queue.specs.declared.store.PassView.TheVariants.{Takes};
 ghost use Rattle.hub_queue.specs.TakerQueues.{IsShut, tags_of};
 ghost use Rattle.hub_queue.specs.Seats.{known_by, tag_of, take_in};
 ghost use Rattle.hub_queue.specs.Settling.{IsCollected, IsEmptied, IsSettling, knowing};
 
 use crate::line_right::LineRight;
+use crate::pause::Steps;
 use crate::queue_rule::TakeIn;
-use crate::steps::Steps;
 use crate::store::{Pass, Store};
 use crate::taker_queue::TakerQueue;
 use hub_envelope::Envelope;

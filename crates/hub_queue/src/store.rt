@@ -1,5 +1,5 @@
 //! The queue that the passes of a mailbox are of.
-use crate::pass_view::PassView;
+
 use crate::queue_rule::QueueRule;
 use crossbeam_queue::{RuledSegQueue, SegPass};
 use hub_envelope::Envelope;
@@ -20,4 +20,34 @@ impl Drop for Store {
         let Store { queue } = self;
         queue.destroy();
     }
+}
+
+/// What the pass of a line knows: the queue's end and epoch, the line, what the line has put, and
+/// how many of its pushes the queue has refused.
+pub struct PutView {
+    pub end: u32,
+    pub epoch: u32,
+    pub line: u8,
+    pub put: [Envelope; 0],
+    pub refused: u64,
+}
+
+/// What the taker's pass knows: the queue's end and epoch, how many lines have got a pass, what was
+/// taken, and of each pass that it has taken in for good what its line has put.
+pub struct TakeView {
+    pub end: u32,
+    pub epoch: u32,
+    pub lines: u8,
+    pub got: [Envelope; 0],
+    pub known: [PutView; 0],
+}
+
+/// What a pass knows, by what may be done with it.
+pub enum PassView {
+    Takes(TakeView),
+    Puts(PutView),
+    /// The taker's pass while a line's pass is lent to it.
+    Both(TakeView, PutView),
+    /// Nothing may be done with it any more.
+    Spent,
 }

@@ -6,17 +6,16 @@ ghost use Rattle.hub_queue.specs.Ending.{IsClosed};
 ghost use Rattle.hub_queue.specs.TakerQueues.{IsShut};
 ghost use Rattle.hub_queue.specs.Taking.{IsTaken, IsTakenOldest, started};
 
-use crate::adopt_error::AdoptError;
 use crate::adopting::open_next;
+use crate::error::AdoptError;
 use crate::grave::Grave;
-use crate::left_queue::LeftQueue;
+use crate::left::LeftQueue;
 use crate::onward::Onward;
-use crate::steps::Steps;
+use crate::pause::Steps;
 use crate::taker_queue::TakerQueue;
-use crate::took::Took;
 use hub_bell::Bell;
 use hub_depot::{Depot, Kept};
-use hub_envelope::{EndId, MAX_MOVES};
+use hub_envelope::{EndId, Envelope, MAX_MOVES};
 use hub_locked::Lends;
 use std::alloc::Global;
 use std::collections::VecDeque;
@@ -24,6 +23,23 @@ use std::marker::Model;
 use std::mem::replace;
 use std::sync::Wait;
 use std::sync::ledger::Ledger;
+
+/// What a take came to.
+#[derive(Debug, Drop)]
+pub enum Took {
+    /// The first envelope of the taker's queue.
+    Got(Envelope),
+    /// The end is enabled, it has no older queue, and a pop of its newest one found none.
+    Empty,
+    /// The taker's queue is retired, and lines are inside or being turned back there.
+    Busy,
+    /// The taker has left a retired queue, from which everything was taken.
+    Again,
+    /// The end isn't enabled.
+    Disabled,
+    /// The end is closed. A taker never answers this, since closing takes it.
+    Closed,
+}
 
 /// Whoever takes from an end.
 ///

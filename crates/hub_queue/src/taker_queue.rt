@@ -1,23 +1,48 @@
+//! The one pop of this crate, which is counted.
+
 ghost use Rattle.std.specs.Prelude.{◌≡◌, is_none, nat_lt};
+ghost use Rattle.crossbeam_queue.specs.SegTies.{IsSegPassOf};
+ghost use Rattle.hub_queue.specs.declared.store.PassView.TheVariants.{Takes};
 ghost use Rattle.hub_queue.specs.Counting.{counted};
+ghost use Rattle.hub_queue.specs.Popping.{IsPop};
+ghost use Rattle.hub_queue.specs.Seats.{known_by, take_in};
 ghost use Rattle.hub_queue.specs.TakerQueues.{IsSettled, IsShut};
 ghost use Rattle.hub_queue.specs.Settling.{IsQueuePop};
 ghost use Rattle.hub_queue.specs.Adopting.{retired_queue};
 ghost use Rattle.hub_queue.specs.Ending.{closed_queue};
 ghost use Rattle.hub_queue.specs.Taking.{IsTakenAt, IsTakenOff, enabled_queue};
 
-use crate::left_queue::LeftQueue;
+use crate::left::{LeftQueue, ShutQueue};
 use crate::line_right::LineRight;
-use crate::pop::pop;
-use crate::shut_queue::ShutQueue;
-use crate::steps::Steps;
+use crate::pause::Steps;
+use crate::queue_rule::Take;
 use crate::store::{Pass, Store};
-use crate::took::Took;
+use crate::taker::Took;
 use hub_envelope::{Envelope, MAX_LINES};
 use hub_gate::Keeper;
 use std::marker::Model;
 use std::sync::ledger::Ledger;
 use std::sync::{Arc, Wait};
+
+/// Pops with the taker's pass, and counts the pop. No other function of the crate pops.
+#[inline(always)]
+pub(crate) fn pop<L: Ledger, R: Wait>(
+    rt: &R,
+    store: &Store,
+    pass: &mut Pass,
+    steps: &mut Steps<L>,
+) -> Option<Envelope>
+    requires queue { IsSegPassOf store.now.queue pass.old }
+    requires taker { known_by pass.old ≡ Takes (take_in (known_by pass.old)) }
+    ensures queue { IsSegPassOf store.now.queue pass.new }
+    ensures taker { known_by pass.new ≡ Takes (take_in (known_by pass.new)) }
+    ensures popped { IsPop (take_in (known_by pass.old)) (take_in (known_by pass.new)) result }
+    ensures counted { steps.new ≡ counted steps.old (is_none result) }
+{
+    let found = store.queue.pop_as::<Take, R>(rt, pass);
+    steps.tick(found.is_none());
+    found
+}
 
 /// One queue at the end that takes from it: the queue, its taker's pass and the keeper of its gate.
 pub struct TakerQueue {
@@ -47,7 +72,7 @@ impl Model for TakerQueue {
     ghost use Rattle.std.specs.Prelude.{◌≡◌};
     ghost use Rattle.std.specs.Arc.{arc_value};
     ghost use Rattle.crossbeam_queue.specs.SegTies.{IsSegPassOf};
-    ghost use Rattle.hub_queue.specs.declared.pass_view.PassView.TheVariants.{Takes};
+    ghost use Rattle.hub_queue.specs.declared.store.PassView.TheVariants.{Takes};
     ghost use Rattle.hub_queue.specs.Seats.{known_by, take_in};
     ghost use Rattle.hub_queue.specs.TakerQueues.{TakerQueueSeat, CountsTaken, HasTags, KnowsBy};
 

@@ -6,7 +6,7 @@ use Rattle.hub_envelope.specs.declared.ids.EndId.{EndId}
 use Rattle.hub_run.specs.Giving.{Gives}
 use Rattle.hub_run.specs.Seats.{AreAllSeated, AreSeated, orders_of}
 use Rattle.hub_agent.specs.Agents.{AgentState}
-use Rattle.hub_agent.specs.declared.peer.Peer.{Peer}
+use Rattle.hub_agent.specs.declared.shared.Peer.{Peer}
 use Rattle.hub_run.proofs.Peers.{map_as, some_of}
 use Rattle.hub_agent.specs.declared.opening.Seat.{Seat}
 

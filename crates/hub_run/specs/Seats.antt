@@ -1,7 +1,7 @@
 -- The seats of the agents of a run at the words of each other's orders.
 use Rattle.std.specs.Prelude.{◌≡◌, ◌<◌, ℕ, List, [], ◌∷◌, ◌++◌, All, get_or, length, map}
 use Rattle.hub_life.specs.OrderSeat.{OrderSeat, new_seat}
-use Rattle.hub_agent.specs.declared.peer.Peer.{Peer}
+use Rattle.hub_agent.specs.declared.shared.Peer.{Peer}
 use Rattle.hub_agent.specs.declared.opening.Seat.{Seat}
 use Rattle.hub_agent.specs.Agents.{AgentState}
 

@@ -3,7 +3,7 @@
 use Rattle.std.specs.Prelude.{ℕ, true, false, List, [], ◌∷◌, ◌++◌, Option, Some, None, Result, Ok, Err, option_map, slice_get, slice_set, if◌then◌else◌}
 use Rattle.hub_life.specs.declared.event.Event.{Event}
 use Rattle.hub_life.specs.declared.event.Event.TheVariants.{Terminate}
-use Rattle.hub_life.specs.declared.life_error.LifeError.{LifeError}
+use Rattle.hub_life.specs.declared.life.LifeError.{LifeError}
 use Rattle.hub_life.specs.Lifecycle.{Progress, start, answer}
 use Rattle.hub_life.specs.Course.{after}
 use Rattle.hub_core.specs.declared.outcome.Outcome.TheVariants as outcome

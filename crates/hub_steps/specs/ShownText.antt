@@ -8,10 +8,10 @@ use Rattle.hub_core.specs.declared.outcome.Outcome.TheVariants as outcome
 use Rattle.std.specs.List.{flat_map}
 use Rattle.std.specs.Fmt.{decimal}
 use Rattle.hub_steps.specs.OutcomeText.{outcome_line}
-use Rattle.hub_life.specs.declared.state.State as life
-use Rattle.hub_life.specs.declared.state.State.TheVariants as state
-use Rattle.hub_life.specs.declared.life_error.LifeError.{LifeError}
-use Rattle.hub_life.specs.declared.life_error.LifeError.TheVariants.{WrongState, TooManyExtensions, NoExtension}
+use Rattle.hub_life.specs.declared.life.State as life
+use Rattle.hub_life.specs.declared.life.State.TheVariants as state
+use Rattle.hub_life.specs.declared.life.LifeError.{LifeError}
+use Rattle.hub_life.specs.declared.life.LifeError.TheVariants.{WrongState, TooManyExtensions, NoExtension}
 
 abbrev pub state_text : life.State → List ℕ
 state_text state.Parsed = codes "parsed"

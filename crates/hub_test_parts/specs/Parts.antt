@@ -4,7 +4,7 @@ use Rattle.hub_envelope.specs.Answer.{answer_of}
 use Rattle.hub_envelope.specs.declared.envelope.Draft.{Draft}
 use Rattle.hub_envelope.specs.declared.ids.AgentId.{AgentId}
 use Rattle.hub_envelope.specs.declared.posted.Posted.{Posted}
-use Rattle.hub_queue.specs.declared.post_error.PostError.{PostError}
+use Rattle.hub_queue.specs.declared.error.PostError.{PostError}
 use Rattle.hub_queue.specs.Posting.{IsPosted}
 use Rattle.hub_queue.specs.Standing.{StandSeat}
 

@@ -1,9 +1,7 @@
 //! A roster of one's own, and the same behind a lock: joins, casts and leaves answer alike over
 //! both.
 use crate::broadcast::parts::{NO_PORTS, is_first, key};
-use hub_broadcast::{
-    CastError, CastOutcome, Member, Roster, SharedRoster, cast_in, join_in, leave_in,
-};
+use hub_broadcast::{CastError, CastOutcome, Member, Roster, SharedRoster, cast_in, leave_in};
 use hub_depot::Depot;
 use hub_envelope::{AgentId, EndId};
 use hub_locked::Lends;
@@ -19,7 +17,14 @@ fn join<L: Lends<Roster>, R: Wait>(
     ends: &mut Ends,
 ) -> Option<Member> {
     let (origin, name) = key(alloc)?;
-    join_in(rt, lender, ends, AgentId(7), origin, name, bell(alloc)?).ok()
+    let bell = bell(alloc)?;
+    let mut drawn = *ends;
+    let (joined, drawn) = lender.lend(rt, move |roster| {
+        let joined = roster.join(&mut drawn, AgentId(7), origin, name, bell);
+        (joined, drawn)
+    });
+    *ends = drawn;
+    joined.ok()
 }
 
 // How many members a cast from the member goes to; a refusal says that it is in no roster.

@@ -1,21 +1,29 @@
 //! A listing and a map of one's own, and the same behind a lock: the calls of a directory answer
 //! alike over both. What is told of the end is kept in a list.
 use hub_clients::{
-    Directory, DirectoryError, Handed, HandedQueue, Listing, close_all, fetch_from, give_back_in,
-    keep_on, line_in, open_in,
+    Directory, DirectoryError, Handed, HandedQueue, Listing, close_all, fetch_from, keep_on,
+    open_in,
 };
 use hub_depot::{Depot, Kept};
 use hub_envelope::{AgentId, EndId, MAX_LINES};
 use hub_locked::{Lends, Locked};
-use hub_queue::{Ends, Grave};
+use hub_queue::{Ends, Grave, Poster};
 use hub_test_parts::bell;
 use std::alloc::Global;
 use std::sync::Wait;
 
+fn line_to<L: Lends<Listing>, R: Wait>(
+    rt: &R,
+    lender: &mut L,
+    end: u32,
+) -> Result<Poster, DirectoryError> {
+    lender.lend(rt, |listing| listing.line_to(EndId(end)))
+}
+
 // Whether the next lines of the queue 0 are these, in order. They are lost at once.
 fn lends_these<L: Lends<Listing>, R: Wait>(rt: &R, lender: &mut L, lines: usize) -> bool {
     for line in 0..lines {
-        match line_in(rt, lender, EndId(0)) {
+        match line_to(rt, lender, 0) {
             Ok(poster) if usize::from(poster.name().line.0) == line => {}
             _ => return false,
         }
@@ -26,15 +34,12 @@ fn lends_these<L: Lends<Listing>, R: Wait>(rt: &R, lender: &mut L, lines: usize)
 // A queue is listed; its last line is given back and lent once more, and then none is left.
 fn lends_lines<L: Lends<Listing>, R: Wait>(rt: &R, alloc: Global, lender: &mut L) -> Option<bool> {
     let queue = open_in(rt, alloc, lender, &mut Ends::new(), bell(alloc)?).ok()?;
-    let is_missing = matches!(
-        line_in(rt, lender, EndId(7)),
-        Err(DirectoryError::NoSuchEnd)
-    );
+    let is_missing = matches!(line_to(rt, lender, 7), Err(DirectoryError::NoSuchEnd));
     let are_lent = lends_these(rt, lender, MAX_LINES - 1);
-    let last = line_in(rt, lender, EndId(0)).ok()?;
-    let is_full = matches!(line_in(rt, lender, EndId(0)), Err(DirectoryError::NoLine));
-    let is_back = give_back_in(rt, lender, last).is_ok();
-    let again = line_in(rt, lender, EndId(0)).ok()?;
+    let last = line_to(rt, lender, 0).ok()?;
+    let is_full = matches!(line_to(rt, lender, 0), Err(DirectoryError::NoLine));
+    let is_back = lender.lend(rt, |listing| listing.give_back(last)).is_ok();
+    let again = line_to(rt, lender, 0).ok()?;
     let is_same = usize::from(again.name().line.0) == MAX_LINES - 1;
     drop(again);
     drop(queue);

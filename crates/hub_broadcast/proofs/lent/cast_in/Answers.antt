@@ -1,5 +1,5 @@
 use Rattle.std.proofs.Common.{rules, ◌≡◌, ◌≢◌, ◌<◌, ◌↔◌, All, Any, IsErrOf, length}
-use Rattle.hub_broadcast.specs.declared.cast_error.CastError.TheVariants.{InvalidState, NotTransferable}
+use Rattle.hub_broadcast.specs.declared.error.CastError.TheVariants.{InvalidState, NotTransferable}
 use Rattle.hub_locked.proofs.Doing.{called_of}
 use Rattle.hub_broadcast.proofs.lent.cast_in.Goals as goal
 

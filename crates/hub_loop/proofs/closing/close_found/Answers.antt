@@ -1,6 +1,6 @@
 use Rattle.std.proofs.Common.{[], ap}
 use Rattle.hub_loop.specs.Ending.{grave_ends}
-use Rattle.hub_loop.specs.declared.closed_port.ClosedPort.{ClosedPort}
+use Rattle.hub_loop.specs.declared.closed.ClosedPort.{ClosedPort}
 use Rattle.hub_loop.proofs.Notices.{behind-one, notices-one, push-same}
 use Rattle.hub_loop.proofs.closing.close_found.Goals as goal
 

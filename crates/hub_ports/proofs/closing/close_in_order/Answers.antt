@@ -1,7 +1,7 @@
 use Rattle.std.proofs.Common.{◌≡◌, [], ◌∷◌, ◌++◌, option_map, subst}
 use Rattle.hub_queue.specs.Standing.{StandSeat}
 use Rattle.hub_queue.specs.Taking.{TakerSeat}
-use Rattle.hub_ports.specs.declared.closing_step.ClosingStep.TheVariants.{Notice, Close}
+use Rattle.hub_ports.specs.declared.closing.ClosingStep.TheVariants.{Notice, Close}
 use Rattle.hub_ports.specs.Closing.{IsNoticed}
 use Rattle.hub_ports.proofs.Tellings.{told_both}
 use Rattle.hub_ports.proofs.closing.close_in_order.Goals as goal

@@ -1,6 +1,6 @@
 use Rattle.std.proofs.Common.{◌≡◌, ◌+◌, List, ◌++◌, map, length}
 use Rattle.crossbeam_queue.specs.SegTies.{IsSegPassOf}
-use Rattle.hub_queue.specs.declared.pass_view.PassView.TheVariants.{Takes}
+use Rattle.hub_queue.specs.declared.store.PassView.TheVariants.{Takes}
 use Rattle.hub_queue.specs.TakerQueues.{tags_of}
 use Rattle.hub_queue.specs.Seats.{LineSeat, known_by, tag_of, take_in}
 use Rattle.hub_queue.specs.Settling.{knowing}

@@ -1,4 +1,4 @@
-use Rattle.hub_queue.specs.declared.took.Took.TheVariants.{Got}
+use Rattle.hub_queue.specs.declared.taker.Took.TheVariants.{Got}
 use Rattle.hub_queue.proofs.Together.{take_keeps}
 use Rattle.hub_queue_tests.proofs.meetings.take_one.Goals as goal
 

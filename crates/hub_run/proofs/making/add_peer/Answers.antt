@@ -3,7 +3,7 @@ use Rattle.std.specs.Prelude.{option_to_list}
 use Rattle.std.proofs.lemmas.List.{length-set, map-append}
 use Rattle.hub_life.specs.OrderSeat.{OrderSeat}
 use Rattle.hub_run.specs.Seats.{orders_of}
-use Rattle.hub_agent.specs.declared.peer.Peer.{Peer}
+use Rattle.hub_agent.specs.declared.shared.Peer.{Peer}
 use Rattle.hub_agent.specs.declared.opening.Seat.{Seat}
 use Rattle.hub_run.proofs.Peers.{front_of, gets_more, last_of}
 use Rattle.hub_run.proofs.making.add_peer.Goals as goal

@@ -1,5 +1,5 @@
 use Rattle.std.proofs.Common.{subst}
-use Rattle.hub_loop.specs.declared.turn.Turn.{Turn}
+use Rattle.hub_loop.specs.declared.handler.Turn.{Turn}
 use Rattle.hub_agent.specs.Entries.{TurnLeaves}
 use Rattle.hub_agent.specs.Owning.{TurnBrings}
 use Rattle.hub_agent.proofs.Actions.{delivered_accounts, other_accounts}

@@ -1,5 +1,5 @@
 use Rattle.std.proofs.Common.{◌≤◌, ◌-◌, ℕ, List}
-use Rattle.hub_bell.specs.declared.steps.BoardStep.{BoardStep}
+use Rattle.hub_bell.specs.declared.board.BoardStep.{BoardStep}
 use Rattle.hub_marks.specs.Finding.{HasStepped}
 use Rattle.hub_loop.specs.Scanning.{AskedThese, ends_of}
 use Rattle.hub_loop.specs.Serving.{HasOrder}

@@ -6,7 +6,7 @@ use Rattle.hub_loop.specs.Marking.{AreMarked, AreNewMarked}
 use Rattle.hub_loop.specs.Turning.{IsDue}
 use Rattle.hub_loop.specs.declared.loop_error.LoopError.{LoopError}
 use Rattle.hub_loop.specs.declared.loop_error.LoopError.TheVariants.{OutOfMemory}
-use Rattle.hub_loop.specs.declared.turn.Turn.TheVariants.{Delivered}
+use Rattle.hub_loop.specs.declared.handler.Turn.TheVariants.{Delivered}
 use Rattle.hub_loop.proofs.Delivers.{taken-up}
 use Rattle.hub_loop.proofs.Marks.{marked-due, marked-none}
 use Rattle.hub_loop.proofs.Pops.{pops-due}

@@ -1,5 +1,5 @@
 use Rattle.std.proofs.Common.{◌≡◌, ◌∙◌, ap, subst, Some}
-use Rattle.hub_queue.specs.declared.took.Took.TheVariants.{Again}
+use Rattle.hub_queue.specs.declared.taker.Took.TheVariants.{Again}
 use Rattle.hub_loop.specs.Asking.{IsHeldTaken}
 use Rattle.hub_loop.proofs.Asks.{again, answered}
 use Rattle.hub_loop.proofs.held.Held.ask.Goals as goal

@@ -1,6 +1,6 @@
 use Rattle.std.proofs.Common.{◌≡◌, ◌<◌, ◌+◌, ◌*◌, ℕ, List}
 use Rattle.std.specs.Int.{bit_at}
-use Rattle.hub_bell.specs.declared.steps.BoardStep.{BoardStep}
+use Rattle.hub_bell.specs.declared.board.BoardStep.{BoardStep}
 use Rattle.hub_marks.specs.Finding.{KeepsMarks, FindsBetween, HasStepped, MarksFound}
 use Rattle.hub_marks.proofs.ready.Ready.gather.Given as goal
 

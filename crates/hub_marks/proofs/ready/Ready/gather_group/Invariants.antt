@@ -1,5 +1,5 @@
 use Rattle.std.proofs.Common.{◌≡◌, ◌*◌, List}
-use Rattle.hub_bell.specs.declared.steps.BoardStep.{BoardStep}
+use Rattle.hub_bell.specs.declared.board.BoardStep.{BoardStep}
 use Rattle.hub_marks.specs.Finding.{KeepsMarks, FindsBetween, HasStepped, MarksFound}
 use Rattle.hub_marks.proofs.ready.Ready.gather_group.Given as goal
 

@@ -1,5 +1,5 @@
 use Rattle.std.proofs.Common.{rules, subst}
-use Rattle.hub_depot.specs.declared.key.Key.{Key}
+use Rattle.hub_depot.specs.declared.kept.Key.{Key}
 use Rattle.hub_queue.specs.Yards.{IsHoppedOver}
 use Rattle.hub_queue.proofs.Hopping.{is_put, is_posted, rung_onward}
 use Rattle.hub_queue.proofs.Hops.{hopped_nowhere, told_here, told_onward}

@@ -1,5 +1,5 @@
 use Rattle.std.proofs.Common.{◌∙◌, ◌+◌, subst}
-use Rattle.hub_queue.specs.declared.posting.Tried.TheVariants.{Answered, Turned}
+use Rattle.hub_queue.specs.declared.stand.Tried.TheVariants.{Answered, Turned}
 use Rattle.hub_queue.specs.Standing.{StandSeat, IsNext}
 use Rattle.hub_queue.specs.Trying.{IsTried}
 use Rattle.hub_queue.proofs.Hopping.{answered_there, gone_more}

@@ -1,7 +1,7 @@
 use Rattle.std.proofs.Common.{rules, ◌≡◌, ap, sym, ◌∙◌, subst, true}
 use Rattle.std.specs.Prelude.{length}
 use Rattle.hub_core.specs.Sender.{by}
-use Rattle.hub_queue.specs.declared.pass_view.PassView.TheVariants.{Takes}
+use Rattle.hub_queue.specs.declared.store.PassView.TheVariants.{Takes}
 use Rattle.hub_queue.specs.TakerQueues.{tags_of, KnowsAll, KnowsBy}
 use Rattle.hub_queue.specs.Seats.{take_in}
 use Rattle.hub_queue.specs.Settling.{looked, knowing}
