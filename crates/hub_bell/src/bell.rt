@@ -1,4 +1,4 @@
-//! What a listener and its bells know of how they sleep and wake.
+//! A listener and its bells, and what they know of how they sleep and wake.
 
 ghost use Rattle.std.specs.Prelude.{◌≡◌, ◌+◌, ◌<◌, ◌==◌, ℕ, [], ◌∷◌, ◌++◌, not, IfOk, List};
 ghost use Rattle.std.specs.Arc.{arc_value};
@@ -223,7 +223,8 @@ impl Listener {
     pub fn bell(&self) -> Result<Bell, OutOfMemory>
         ensures { IfOk result (λ bell. bell ≡ new_at self.now.board) }
     {
-        Ok(Bell::at(Arc::try_clone(&self.board)?))
+        let board = Arc::try_clone(&self.board)?;
+        Ok(Bell::at(board))
     }
 
     /// Takes out the names of the groups in which bits were set: bit `n` is set where one was set

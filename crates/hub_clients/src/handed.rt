@@ -1,5 +1,4 @@
-//! How a queue waits for the agent that it was handed to, in a map of one's own or in the
-//! directory's.
+//! Queues that wait for the agent that they were handed to.
 
 ghost use Rattle.std.specs.Prelude.{◌≡◌, IsNone, IsSome, IfSome, IfNone, OnOk, IfErr, OnErr};
 ghost use Rattle.std.specs.FinMap as map;

@@ -1,4 +1,4 @@
-//! How a gate is opened.
+//! A gate: the rule of its word and slots, and how it is opened.
 
 ghost use Rattle.std.specs.Prelude.{ℕ, List, [], ◌≡◌, ◌≤◌, None, Some, map, replicate, length};
 ghost use Rattle.std.specs.Prelude.{vec_capacity, IfOk, IfErr};

@@ -1,4 +1,4 @@
-//! How a port is closed, and how all ports of a list are.
+//! How a port is closed, and how all ports of a doomed list are.
 
 ghost use Rattle.std.specs.Prelude.{◌≡◌, ◌≤◌, [], ◌∷◌, ◌++◌, length};
 ghost use Rattle.std.specs.Option.{option_map};

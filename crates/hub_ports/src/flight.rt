@@ -1,4 +1,4 @@
-//! Ports in flight: how the ports of a list are put there, and how they are taken back.
+//! Ports in flight: how they are put there, taken back, and closed at the end of a hub.
 
 ghost use Rattle.std.specs.Prelude.{◌≡◌, ◌+◌, ◌<◌, ◌≤◌, [], ◌++◌, List, take, length, vec_len};
 ghost use Rattle.std.specs.Prelude.{vec_capacity, Some, OnOk, OnErr, IfSome, IfErr};

@@ -1,4 +1,4 @@
-//! How two ports are made that are entangled.
+//! What the ports of a run share, and how two of them are made that are entangled.
 
 ghost use Rattle.std.specs.Prelude.{◌≡◌, ◌+◌, ◌<◌, ◌↔◌, ◌∷◌, [], IfOk, OnOk, OnErr, IsErrOf};
 ghost use Rattle.hub_envelope.specs.declared.limits.TheConstants.{MAX_ENDS};

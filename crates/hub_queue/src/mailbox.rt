@@ -1,4 +1,4 @@
-//! How a queue comes into being, with its gate and the passes of its lines.
+//! Mailboxes: how a queue comes into being, with its gate and the passes of its lines.
 
 ghost use Rattle.std.specs.Prelude.{◌≡◌, ◌+◌, ◌<◌, ◌≤◌, IfSome, IfNone, IfOk};
 ghost use Rattle.hub_envelope.specs.declared.limits.TheConstants.{MAX_ENDS, MAX_LINES};

@@ -1,4 +1,4 @@
-//! The queue that the passes of a mailbox are of.
+//! The queue that the passes of a mailbox are of, and what those know of it.
 
 use crate::queue_rule::QueueRule;
 use crossbeam_queue::{RuledSegQueue, SegPass};

@@ -1,4 +1,4 @@
-//! The one pop of this crate, which is counted.
+//! A queue of a taker: what waits there, and the one pop of this crate, which is counted.
 
 ghost use Rattle.std.specs.Prelude.{◌≡◌, is_none, nat_lt};
 ghost use Rattle.crossbeam_queue.specs.SegTies.{IsSegPassOf};
