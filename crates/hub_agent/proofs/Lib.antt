@@ -1,3 +1,4 @@
+pub mod ActionByAction
 pub mod Actions
 pub mod Brings
 pub mod Closings

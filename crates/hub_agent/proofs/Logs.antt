@@ -1,7 +1,7 @@
 -- The log of an agent that began with no entry and did its actions.
 use Rattle.std.proofs.Common.{◌≡◌, ◌∙◌, ◌≤◌, ◌+◌, ◌++◌, ℕ, List, [], None, ap, arith, length, subst, sym, take}
-use Rattle.hub_acting.specs.Doing.{actions_of}
-use Rattle.hub_acting.specs.declared.acting.Acted.{Acted}
+use Rattle.hub_agent.specs.Doing.{actions_of}
+use Rattle.hub_agent.specs.declared.actor.Acted.{Acted}
 use Rattle.hub_envelope.specs.declared.ids.AgentId.{AgentId}
 use Rattle.hub_script.specs.Contents.{Contents, actions}
 use Rattle.hub_trace.specs.Accepted.{AgentLog}

@@ -2,8 +2,8 @@
 use Rattle.std.proofs.Common.{◌≡◌, ◌≢◌, ℕ, length, take, List, [], ◌∷◌, ◌++◌, Bool, true, false, Result, Ok, IfOk, sym, refl, inl, subst, arith}
 use Rattle.std.proofs.lemmas.List.Elements.{All-nil}
 use Rattle.hub_envelope.specs.declared.posted.Posted.{Posted}
-use Rattle.hub_acting.specs.Doing.{DidAll, HasActed, IsStopped}
-use Rattle.hub_acting.specs.declared.acting.Acted.{Acted}
+use Rattle.hub_agent.specs.Doing.{DidAll, HasActed, IsStopped}
+use Rattle.hub_agent.specs.declared.actor.Acted.{Acted}
 use Rattle.hub_script.specs.declared.action.ActionKind.{ActionKind}
 use Rattle.hub_script.specs.declared.action.ActionKind.TheVariants.{Post, Send, Cast, Start, Loaded, Close, Wait, Receive, Order, Event, Hand, Fetch}
 use Rattle.hub_trace.specs.declared.log_entry.LogEntry.{LogEntry}

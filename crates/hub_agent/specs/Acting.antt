@@ -4,8 +4,8 @@ use Rattle.hub_envelope.specs.declared.ids.AgentId.{AgentId}
 use Rattle.hub_script.specs.Contents.{Contents, actions}
 use Rattle.hub_script.specs.declared.action.ActionKind.{ActionKind}
 use Rattle.hub_script.specs.declared.action.ActionKind.TheVariants.{Post, Send, Cast}
-use Rattle.hub_acting.specs.Doing.{actions_of}
-use Rattle.hub_acting.specs.declared.acting.Acted.{Acted}
+use Rattle.hub_agent.specs.Doing.{actions_of}
+use Rattle.hub_agent.specs.declared.actor.Acted.{Acted}
 use Rattle.hub_trace.specs.Accepted.{AgentLog}
 use Rattle.hub_logging.specs.Notes.{Notes}
 use Rattle.hub_trace.specs.declared.log_entry.LogEntry.{LogEntry}

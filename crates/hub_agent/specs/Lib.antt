@@ -1,6 +1,7 @@
 pub mod Acting
 pub mod Agents
 pub mod Casting
+pub mod Doing
 pub mod Entries
 pub mod Given
 pub mod Owning

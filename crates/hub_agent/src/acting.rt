@@ -1,7 +1,7 @@
 //! The actions of an agent, in order. An action whose end isn't held any more is skipped.
 
 ghost use Rattle.std.specs.Prelude.{⊤, ◌≡◌, List, IfErr, IfOk, OnOk, option_map};
-ghost use Rattle.hub_acting.specs.Doing.{actions_of};
+ghost use Rattle.hub_agent.specs.Doing.{actions_of};
 ghost use Rattle.hub_life.specs.Course.{after as lived};
 ghost use Rattle.hub_script.specs.Contents.{actions};
 ghost use Rattle.hub_script.specs.declared.action.ActionKind.TheVariants.{Hand};
@@ -12,11 +12,11 @@ ghost use Rattle.hub_agent.specs.Owning.{Accounts, HoldsNoMore};
 ghost use Rattle.hub_agent.specs.Acting.{ActsFirst};
 ghost use Rattle.hub_trace.specs.declared.log_entry.LogEntry.{LogEntry};
 
+use crate::actor::{Acted, Actor, act_all};
 use crate::agent::Agent;
 use crate::logging::log_closed_end;
 use crate::posting::Way;
 use crate::shared::{Peer, Shared, order_all};
-use hub_acting::{Acted, Actor, act_all};
 use hub_broadcast::Roster;
 use hub_clients::{Directory, HandError};
 use hub_envelope::{AgentId, EndId, OutOfMemory};

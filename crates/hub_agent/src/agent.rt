@@ -17,10 +17,10 @@ ghost use Rattle.hub_trace.specs.declared.limits.TheConstants.{MAX_AGENT};
 ghost use Rattle.hub_trace.specs.declared.log_entry.LogEntry.{LogEntry};
 
 use crate::acting::Awaited;
+use crate::actor::Acted;
 use crate::ending::finish_loop;
 use crate::logging::{epoch_of, log_adopted};
 use crate::shared::{Peer, Shared, order_all};
-use hub_acting::Acted;
 use hub_broadcast::Roster;
 use hub_envelope::{AgentId, EndId, OutOfMemory};
 use hub_life::{Life, Order};

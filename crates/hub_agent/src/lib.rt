@@ -7,6 +7,7 @@
 #![tactic(auto)]
 
 mod acting;
+mod actor;
 mod agent;
 mod casting;
 mod ending;
@@ -15,8 +16,8 @@ mod opening;
 mod posting;
 mod shared;
 
+pub use actor::{Acted, Actor, act_all};
 pub use agent::{Agent, AgentRun};
-pub use hub_acting::Acted;
 pub use hub_envelope::OutOfMemory;
 pub use opening::Seat;
 pub use shared::{Peer, Shared};

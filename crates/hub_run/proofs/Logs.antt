@@ -2,8 +2,8 @@
 use Rattle.std.proofs.Common.{◌≡◌, ◌∙◌, ◌<◌, List, false, length, get_or, subst, sym, take, drop}
 use Rattle.std.proofs.lemmas.List.{take-append-drop}
 use Rattle.std.proofs.lemmas.Option.{get_or_from_slice_get, slice_get-get_or, slice_get_within}
-use Rattle.hub_acting.specs.Doing.{actions_of}
-use Rattle.hub_acting.specs.declared.acting.Acted.{Acted}
+use Rattle.hub_agent.specs.Doing.{actions_of}
+use Rattle.hub_agent.specs.declared.actor.Acted.{Acted}
 use Rattle.hub_agent.specs.Acting.{AreEntriesFor, IsRunFor}
 use Rattle.hub_agent.specs.Entries.{AreLoggedFor}
 use Rattle.hub_agent.proofs.Messages.{entries_put}

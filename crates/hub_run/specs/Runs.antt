@@ -2,8 +2,8 @@
 use Rattle.std.specs.Prelude.{◌≡◌, ℕ, List, length, Some, slice_get}
 use Rattle.hub_envelope.specs.declared.ids.AgentId.{AgentId}
 use Rattle.hub_script.specs.Contents.{Contents, actions, agents}
-use Rattle.hub_acting.specs.Doing.{actions_of}
-use Rattle.hub_acting.specs.declared.acting.Acted.{Acted}
+use Rattle.hub_agent.specs.Doing.{actions_of}
+use Rattle.hub_agent.specs.declared.actor.Acted.{Acted}
 use Rattle.hub_trace.specs.Accepted.{AgentLog}
 use Rattle.hub_agent.specs.Acting.{AreEntriesFor, ArePutFor, IsRunFor}
 use Rattle.hub_agent.specs.Given.{given}

@@ -4,7 +4,7 @@ use Rattle.std.specs.declared.alloc.AllocError.{AllocError}
 use Rattle.std.specs.declared.thread.PromisedHandle.{PromisedHandle}
 use Rattle.hub_script.specs.Contents.{Contents}
 use Rattle.hub_trace.specs.Accepted.{AgentLog}
-use Rattle.hub_acting.specs.declared.acting.Acted.{Acted}
+use Rattle.hub_agent.specs.declared.actor.Acted.{Acted}
 use Rattle.hub_agent.specs.declared.agent.AgentRun.{AgentRun}
 use Rattle.hub_run.specs.declared.run.Part.{Part}
 use Rattle.hub_agent.specs.Acting.{IsRunFor}

@@ -1,6 +1,6 @@
 //! How far an agent comes with its actions, shown by an actor that lives in memory.
 use crate::assertions::assert_same;
-use hub_acting::{Acted, Actor, OutOfMemory, act_all};
+use hub_agent::{Acted, Actor, OutOfMemory, act_all};
 use hub_envelope::AgentId;
 use hub_script::{ActionKind, Script};
 use std::sync::Wait;

@@ -1,7 +1,7 @@
 use Rattle.std.specs.Prelude.{◌≡◌, ℕ, ◌+◌, ◌<◌, get_or, vec_items, vec_len}
 use Rattle.std.specs.Vec.Iter.{into_iter_len}
 use Rattle.std.proofs.Common.{rules, arith, below_more, length, subst, sym}
-use Rattle.hub_acting.specs.declared.acting.Acted.{Acted}
+use Rattle.hub_agent.specs.declared.actor.Acted.{Acted}
 use Rattle.hub_script.specs.Contents.{Contents, agents}
 use Rattle.hub_trace.specs.Accepted.{AgentLog}
 use Rattle.hub_agent.specs.Acting.{IsRunFor}

@@ -1,6 +1,6 @@
 use Rattle.std.proofs.Common.{◌∙◌, ap, subst}
 use Rattle.hub_envelope.specs.declared.ids.AgentId.{AgentId}
-use Rattle.hub_acting.specs.Doing.{actions_of}
+use Rattle.hub_agent.specs.Doing.{actions_of}
 use Rattle.hub_script.specs.Contents.{actions}
 use Rattle.hub_agent.specs.Acting.{ActsFirst}
 use Rattle.hub_agent.specs.Agents.{AgentState}

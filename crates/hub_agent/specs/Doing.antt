@@ -4,7 +4,7 @@ use Rattle.std.specs.List.{filter}
 use Rattle.hub_envelope.specs.declared.ids.AgentId.{AgentId}
 use Rattle.hub_script.specs.declared.action.Action.{Action}
 use Rattle.hub_script.specs.declared.action.ActionKind.{ActionKind}
-use Rattle.hub_acting.specs.declared.acting.Acted.{Acted}
+use Rattle.hub_agent.specs.declared.actor.Acted.{Acted}
 
 -- the actions of the agent, in the order of the script
 abbrev pub actions_of : AgentId → List Action → List ActionKind

@@ -6,7 +6,7 @@ use Rattle.std.proofs.lemmas.List.Elements.{filter-append}
 use Rattle.hub_envelope.specs.declared.ids.AgentId.{AgentId}
 use Rattle.hub_script.specs.declared.action.Action.{Action}
 use Rattle.hub_script.specs.declared.action.ActionKind.{ActionKind}
-use Rattle.hub_acting.specs.Doing.{DidAll, HasActed, actions_of}
+use Rattle.hub_agent.specs.Doing.{DidAll, HasActed, actions_of}
 
 -- the actions of an agent among those of two lists
 pub actions_both : (agent : AgentId) (xs ys : List Action) → actions_of agent (xs ++ ys) ≡ actions_of agent xs ++ actions_of agent ys

@@ -1,7 +1,7 @@
 use Rattle.std.proofs.Common.{◌≡◌, ◌≤◌, length, take}
 use Rattle.hub_script.specs.Contents.{actions}
-use Rattle.hub_acting.specs.Doing.{DidAll, actions_of}
-use Rattle.hub_acting.proofs.acting.act_all.Given as goal
+use Rattle.hub_agent.specs.Doing.{DidAll, actions_of}
+use Rattle.hub_agent.proofs.actor.act_all.Given as goal
 
 -- so far each action of the agent was done
 abbrev pub invariant-loop-at : goal.invariant-loop-at

@@ -1,9 +1,9 @@
 use Rattle.std.proofs.Common.{rules, ◌≡◌, ◌∙◌, ◌==◌, ◌<◌, length, true, false, get_or, ap, sym, subst, take, drop, suc, Bool}
 use Rattle.hub_script.specs.Contents.{actions}
-use Rattle.hub_acting.specs.Doing.{actions_of}
-use Rattle.hub_acting.proofs.OneByOne.{counted, did_other, did_own, of_error, other_taken, own_parts, own_taken, stopped}
-use Rattle.hub_acting.proofs.acting.act_all.Goals.{then-eq+else-sees_order+in_ok-act, else-eq}
-use Rattle.hub_acting.proofs.acting.act_all.Goals as goal
+use Rattle.hub_agent.specs.Doing.{actions_of}
+use Rattle.hub_agent.proofs.ActionByAction.{counted, did_other, did_own, of_error, other_taken, own_parts, own_taken, stopped}
+use Rattle.hub_agent.proofs.actor.act_all.Goals.{then-eq+else-sees_order+in_ok-act, else-eq}
+use Rattle.hub_agent.proofs.actor.act_all.Goals as goal
 
 -- the item is the script's action at the index
 pub returns-then-sees_order-clause-ok : goal.returns-then-sees_order-clause-ok

@@ -1,5 +1,5 @@
 ghost use Rattle.std.specs.Prelude.{IfOk, OnErr};
-ghost use Rattle.hub_acting.specs.Doing.{HasActed, HasFailed, actions_of};
+ghost use Rattle.hub_agent.specs.Doing.{HasActed, HasFailed, actions_of};
 ghost use Rattle.hub_script.specs.Contents.{actions};
 
 use hub_envelope::{AgentId, OutOfMemory};
