@@ -34,7 +34,7 @@ TESTED = "YOUR_HUB.md"
 SESSION = re.compile(r"^```console\n((?:.*\n)*?)```$", re.MULTILINE)
 BESIDE = re.compile(r"^```steps\n((?:.*\n)*?)```$", re.MULTILINE)
 EXCERPT = re.compile(r"^From `([^`]+)`[^\n]*:\n\n```rust\n((?:.*\n)*?)```$", re.MULTILINE)
-LINK = re.compile(r"\[[^]]*\]\(([^)#\s]*)(#[^)\s]*)?\)")
+LINK = re.compile(r"\[([^]]*)\]\(([^)#\s]*)(#[^)\s]*)?\)")
 NAMED = re.compile(r"`([a-z_0-9]+\.rt)`")
 SHOWN = re.compile(rf"(?:(cat|tools/\w+)|\./messagehub ({'|'.join(MODES)}) <) (\S+)")
 BAD_INPUT = re.compile(rb"line [0-9]+: [A-Za-z0-9()]+")
@@ -183,16 +183,42 @@ class Links(support.TestCase):
     def test_links(self):
         count = 0
         for page in [*PAGES, *OTHERS]:
-            for target, anchor in LINK.findall(text_of(page)):
+            for _, target, anchor in LINK.findall(text_of(page)):
                 if re.match(r"\w+:", target):
                     continue
                 with self.subTest(page=page.name, link=target + anchor):
                     count += 1
                     path = (page.parent / target) if target else page
                     self.assertTrue(path.exists())
-                    if anchor:
+                    if anchor and path.suffix == ".md":
                         self.assertIn(anchor, anchors(path))
         self.says(count, "links", 20)
+
+    def test_clauses(self):
+        """Where a link ends in a line of a source, that line declares what the link names."""
+        shown = [(page, *it) for page in PAGES for it in LINK.findall(text_of(page))]
+        shown = [it for it in shown if it[2].endswith((".rt", ".antt"))]
+        for page, text, target, anchor in shown:
+            with self.subTest(page=page.name, link=text):
+                self.assertRegex(anchor, r"^#L[1-9]\d*$")
+                name = re.findall(r"\w+", text)[-1]
+                line = text_of(page.parent / target).splitlines()[int(anchor[2:]) - 1]
+                words = r"fn|struct|trait|ensures|ghost|abbrev|record|pub"
+                self.assertRegex(line, rf"^\s*(?:pub )?[^/={{]*\b(?:{words}) {name}\b")
+        self.ran([ROOT / "tools" / "links", "--check"])
+        self.says(len(shown), "clauses and definitions", 150)
+
+    def test_promises(self):
+        """Each promise of the first parts names a clause, by a link."""
+        page = text_of(ROOT / "docs" / "PROMISES.md")
+        parts = re.split(r"^## ", page, flags=re.MULTILINE)
+        heads = ("The state machine", "Values and texts", "The parts that threads share")
+        rows = [row for part in parts if part.startswith(heads)
+                for row in re.findall(r"^- .*", part, re.MULTILINE)]
+        for row in rows:
+            with self.subTest(row=row[:60]):
+                self.assertRegex(row, r"\]\(\.\./crates/[^)]*#L\d+\)")
+        self.says(len(rows), "promises", 30)
 
     def test_crates(self):
         names, _ = crates()
