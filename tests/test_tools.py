@@ -1,4 +1,4 @@
-"""Tests of tools/edits, clauses, links, costs and build that need no toolchain."""
+"""Tests of tools/edits, clauses, links, rests-on, costs and build that need no toolchain."""
 
 import importlib.machinery
 import importlib.util
@@ -105,6 +105,31 @@ class Links(support.TestCase):
         told = [it.rpartition(": ")[2] for it in astray]
         self.assertEqual(told, ["it stands at 2 lines [6, 14]", *["it stands at 0 lines []"] * 2])
         self.says(len(astray), "links", 3)
+
+
+class RestsOn(support.TestCase):
+    """tools/rests-on counts what a definition cites, through lists of names and modules."""
+
+    FILES = {
+        "Words": "pub use Rattle.one.specs.Low.{far}\n",
+        "Low": "-- Far is low.\nabbrev pub far : \u2115\nfar = 1\n\nabbrev pub unread : \u2115\n",
+        "Side": "-- About deep and unread.\nabbrev pub deep : \u2115\ndeep = deep_in 3\n",
+        "High": "use Rattle.one.specs.Words.{far, unread}\nuse Rattle.one.specs.Side as side\n\n"
+                "pub record High : Type 0 where\n  pub one : far \u2261 side.deep\n"
+                "  -- Here unread is named alone.\n",
+    }
+
+    def test_lines(self):
+        for name, text in self.FILES.items():
+            self.write(f"crates/one/specs/{name}.antt", text)
+        module = tool("rests-on")
+        module.CRATES = self.folder / "crates"
+        reader = module.Reader()
+        high = module.CRATES / "one" / "specs" / "High.antt"
+        reader.add(high, "High")
+        found = [(count, whole, path.stem) for count, whole, path in reader.rows(high)]
+        self.assertEqual(found, [(3, 5, "Low"), (3, 3, "Side"), (3, 6, "High")])
+        self.says(len(found), "files", 3)
 
 
 class Edits(support.TestCase):
