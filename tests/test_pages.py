@@ -264,6 +264,21 @@ class Links(support.TestCase):
         self.says(len(files), "files", 150)
 
 
+    def test_notation(self):
+        """The legend of docs/DEFINITIONS.md has each sign that the definitions are written with."""
+        page = text_of(ROOT / "docs" / "DEFINITIONS.md")
+        legend = re.search(r"^## How to read them\n(.*?)^## ", page, re.MULTILINE | re.DOTALL)[1]
+        signs = collections.Counter()
+        for path in (ROOT / "crates").glob("*/specs/*.antt"):
+            code = re.sub(r'--.*|"[^"]*"', "", text_of(path))
+            signs.update(re.findall(r"[^\x00-\x7f]|&&|\|\||==|>>=|\+\+", code))
+        plain = legend.replace("\\|", "|")
+        for sign in (it for it, count in signs.items() if count >= 5):
+            with self.subTest(sign=sign, count=signs[sign]):
+                self.assertIn(sign, plain)
+        self.says(len(signs), "signs", 20)
+
+
 class Counts(support.TestCase):
     def test_words(self):
         for page in CRATE_PAGES:
@@ -273,6 +288,44 @@ class Counts(support.TestCase):
         total = sum(words_of(page) for page in PAGES)
         self.assertLessEqual(total, MOST_WORDS["all"])
         self.says(len(PAGES), f"pages of {total:,} words", 40)
+
+    def test_sizes(self):
+        """docs/PROMISES.md has the sizes of the crates, but for tests and examples, in hundreds."""
+        names = {it for it in cratelist.lines() if not it.endswith("_tests")}
+        names -= {"hub_player", "hub_test_parts", "example_core", "example_loops"}
+        sizes = [
+            sum(text_of(path).count("\n") for name in names
+                for path in (ROOT / "crates" / name / part).rglob(f"*.{suffix}"))
+            for part, suffix in (("src", "rt"), ("specs", "antt"), ("proofs", "antt"))
+        ]
+        code, definitions, proof = (f"{round(size, -2):,}" for size in sizes)
+        self.assertIn(f"{code} lines of code, {definitions} of definitions and {proof} of proof",
+                      text_of(ROOT / "docs" / "PROMISES.md"))
+        self.says(sum(sizes), "lines", 70_000)
+
+    def test_lines_to_believe(self):
+        """What docs/PROMISES.md has one read for the headline is what `tools/rests-on` counts."""
+        rows = self.ran([ROOT / "tools" / "rests-on", "hub_core", "Headline"]).decode()
+        found = re.findall(r"^ *(\d+) of +\d+  .*/(\w+)\.antt$", rows, re.MULTILINE)
+        listed = ", ".join(f"{name} {count}" for count, name in found)
+        page = text_of(ROOT / "docs" / "PROMISES.md")
+        total = sum(int(count) for count, _ in found)
+        self.assertIn(f"by `tools/rests-on hub_core Headline` {total} lines: {listed} (", page)
+        self.says(total, "lines", 500)
+
+    def test_unsafe(self):
+        """The command of docs/PROMISES.md shows as many exports as it says, and two lines more."""
+        page = text_of(ROOT / "docs" / "PROMISES.md")
+        shown = re.search(r"`(git grep [^`]+)` finds (\d+) exports to C, and two", page)
+        command, exports = shown.groups()
+        if shutil.which("git") is None or not (ROOT / ".git").exists():
+            self.skipTest("git, or a clone")
+        lines = self.ran(["/bin/sh", "-c", command], cwd=ROOT).decode().splitlines()
+        boxes = [line for line in lines if "#[unsafe(no_mangle)]" not in line]
+        self.assertEqual(len(lines) - len(boxes), int(exports))
+        self.assertEqual([line.split("unsafe")[1] for line in boxes],
+                         [" { Box::from_raw(alloc, ptr) }"] * 2)
+        self.says(len(lines), "lines", 30)
 
     def test_edits(self):
         gate = len(list((ROOT / "crates").glob("*/must-fail/*.edit")))
