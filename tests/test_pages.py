@@ -39,7 +39,9 @@ NAMED = re.compile(r"`([a-z_0-9]+\.rt)`")
 SHOWN = re.compile(rf"(?:(cat|tools/\w+)|\./messagehub ({'|'.join(MODES)}) <) (\S+)")
 BAD_INPUT = re.compile(rb"line [0-9]+: [A-Za-z0-9()]+")
 # Commands that are shown and not run: they prove, build without proofs, or build a library.
-LEFT = re.compile(r"\.ci/run|\./messagehub --unproved .*|embed/build .*|python3 embed/python/.*")
+LEFT = re.compile(
+    r"\.ci/run|\./messagehub --unproved .*|embed/build .*|python3 /opt/varukoni/python/.*"
+)
 
 MOST_WORDS = {"README.md": 1_400, "a crate": 250, "all": 31_000}
 
@@ -121,17 +123,16 @@ class Sessions(support.TestCase):
         self.says(ran.total() - ran["cat"] - sum(runs), "commands of tools", 3)
 
     def test_steps_beside_outcomes(self):
-        pairs = [
-            (step.rstrip(), outcome)
-            for page in PAGES
-            for block in BESIDE.findall(text_of(page))
-            for line in block.splitlines()
-            for step, outcome in [re.split(r" {2,}", line, maxsplit=1)]
-        ]
-        text = "".join(f"{step}\n" for step, _ in pairs).encode()
-        wanted = "".join(f"{outcome}\n" for _, outcome in pairs).encode()
-        self.assertEqual(outcome_of([PROGRAM, "steps"], text).output, wanted)
-        self.says(len(pairs), "step lines", 10)
+        """Each block of a page is the whole input of a hub, with its outcomes beside it."""
+        count = 0
+        for page, block in [(it, block) for it in PAGES for block in BESIDE.findall(text_of(it))]:
+            pairs = [re.split(r" {2,}", line, maxsplit=1) for line in block.splitlines()]
+            text = "".join(f"{step}\n" for step, _ in pairs).encode()
+            wanted = "".join(f"{outcome}\n" for _, outcome in pairs).encode()
+            with self.subTest(page=page.name):
+                self.assert_outcome(outcome_of([PROGRAM, "steps"], text), Outcome(wanted, b"", 0))
+            count += len(pairs)
+        self.says(count, "step lines", 20)
 
     def test_examples_of_formats(self):
         """Where an example of docs/FORMATS.md is one whole step line, it gives the word beside."""
@@ -338,6 +339,7 @@ class Counts(support.TestCase):
         version = re.search(r"^## ([0-9.]+)", text_of(ROOT / "CHANGELOG.md"), re.MULTILINE)[1]
         told = outcome_of([ROOT / "messagehub", "--version"], None).output.decode().split()
         self.assertEqual(told[:2], ["messagehub", version])
-        cargo = text_of(ROOT / "embed" / "rust" / "Cargo.toml")
-        self.assertIn(f'\nversion = "{version}"\n', cargo)
-        self.says(2, "versions")
+        for crate in ("rust", "rust-ports"):
+            cargo = text_of(ROOT / "embed" / crate / "Cargo.toml")
+            self.assertIn(f'\nversion = "{version}"\n', cargo)
+        self.says(3, "versions")
