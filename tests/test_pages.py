@@ -10,6 +10,7 @@ by the last line of the output, as docs/FORMATS.md says.
 """
 
 import collections
+import os
 import pathlib
 import re
 import shutil
@@ -19,6 +20,9 @@ import tempfile
 import time
 
 import support
+import test_embed
+import test_embed_ports
+import test_runtime
 from support import MODES, PROGRAM, ROOT, Outcome, outcome_of
 
 import cratelist
@@ -156,28 +160,134 @@ class Sessions(support.TestCase):
         self.says(len(shown), "excerpts", 8)
 
 
+def ways():
+    """The rows of README's table of ways: the first command, and what it needs and takes."""
+    _, _, part = text_of(README).partition("\n## Six ways to use it\n")
+    row = r"^\|[^|]+\| `([^`]+)`[^|]*\| ([^|]+) \|[^|]+\|$"
+    return re.findall(row, part.partition("\n## ")[0], re.MULTILINE)
+
+
 class FirstCommands(support.TestCase):
-    """What README's table of ways says of those that want Python alone."""
+    """The first commands of README's table of ways, where a fresh clone has nothing else."""
+
+    # What the launcher calls, beside Python. There is no rt, no compiler and no browser.
+    LAUNCHERS = ("bash", "cat", "env", "readlink", "sed", "sh")
+    PARTS = ("CHANGELOG.md", "crates.txt", "examples", "messagehub", "record", "tools")
+
+    def clone(self, *tools):
+        """A folder with what git keeps of these parts, and a path with these tools alone."""
+        if shutil.which("git") and (ROOT / ".git").exists():
+            listed = self.ran(["git", "ls-files", "-z", *self.PARTS], cwd=ROOT).decode()
+            names = [name for name in listed.split("\0") if name]
+        else:
+            found = [ROOT / name for name in self.PARTS]
+            found += [path for folder in found for path in folder.rglob("*")]
+            names = [path.relative_to(ROOT) for path in found if path.is_file()]
+        for name in names:
+            (self.folder / name).parent.mkdir(parents=True, exist_ok=True)
+            shutil.copy2(ROOT / name, self.folder / name)
+        (self.folder / "bin").mkdir()
+        (self.folder / "bin" / "python3").symlink_to(sys.executable)
+        for name in tools:
+            (self.folder / "bin" / name).symlink_to(shutil.which(name))
+
+    def run_first(self, rows):
+        """Runs each command there, and tells its time beside what README says."""
+        told = []
+        for command, takes in rows:
+            began = time.monotonic()
+            found = subprocess.run(["/bin/sh", "-c", command], cwd=self.folder, check=False,
+                                   capture_output=True, env={"PATH": str(self.folder / "bin")})
+            told.append(f"`{command}` in {time.monotonic() - began:.1f} s (README: {takes})")
+            _, _, target = command.partition(" > ")
+            with self.subTest(command=command):
+                self.assertEqual((found.stderr, found.returncode), (b"", 0))
+                given = (self.folder / target).read_bytes() if target else found.stdout
+                self.assertGreater(given.count(b"\n"), 2, "it gives too little")
+        self.says(len(rows), f"ways: {', '.join(told)}", 2)
+
+    def test_rows(self):
+        """Each row stands in a test: here, or where `embed/build` has built."""
+        rows = ways()
+        alone = [takes for command, takes in rows if takes == "Python 3.11; a second"]
+        self.assertEqual(len(rows) - len(alone), len([
+            command for command, _ in rows
+            if command.startswith(("./messagehub steps <", "tools/play ", "embed/build"))
+        ]))
+        self.says(len(rows), "ways", 6)
 
     def test_python_alone(self):
-        """Their first commands run where there is nothing else, in about the time that it says."""
-        rows = re.findall(r"^\|[^|]+\| `([^`]+)`[^|]*\| Python 3\.11; a second \|",
-                          text_of(README), re.MULTILINE)
-        with tempfile.TemporaryDirectory() as name:
-            folder = pathlib.Path(name)
-            for part in ("examples", "record", "tools"):
-                shutil.copytree(ROOT / part, folder / part)
-            (folder / "bin").mkdir()
-            (folder / "bin" / "python3").symlink_to(sys.executable)
-            took = []
-            for row in rows:
-                began = time.monotonic()
-                found = subprocess.run(["/bin/sh", "-c", row], cwd=folder, capture_output=True,
-                                       env={"PATH": str(folder / "bin")}, check=False)
-                took.append(f"{time.monotonic() - began:.1f}")
-                with self.subTest(command=row):
-                    self.assertEqual((found.stderr, found.returncode), (b"", 0))
-        self.says(len(rows), f"ways, in {' and '.join(took)} s", 2)
+        self.clone()
+        self.run_first([row for row in ways() if row[1] == "Python 3.11; a second"])
+
+    def test_program(self):
+        """With the program that CI has built: its build is no part of the time."""
+        if not support.IS_BUILT:
+            self.skipTest("the program, which `rt ci` builds")
+        out = self.folder / "crates" / "messagehub" / "out"
+        out.mkdir(parents=True)
+        shutil.copy2(PROGRAM, out / "messagehub")
+        (out / "messagehub.sources").touch()
+        self.clone(*self.LAUNCHERS)
+        self.run_first([it for it in ways() if it[0].startswith(("./messagehub", "tools/play"))])
+
+
+class FirstBuilds(test_embed.Embedded):
+    """The rows of README's table that `embed/build` serves, and those of docs/EMBEDDING.md."""
+
+    time_limit = test_embed.SECONDS_TO_BUILD + test_runtime.SECONDS
+
+    def setUp(self):
+        is_built = (test_embed.OUT / "BUILT").is_file()
+        began = time.monotonic()
+        super().setUp()
+        took = time.monotonic() - began
+        self.summary = f"embed/build {'built before' if is_built else f'in {took:.0f} s'}"
+
+    def first(self, tool):
+        """Runs the row's command that begins with the tool, in a folder with what was built."""
+        if shutil.which(tool) is None:
+            self.skipTest(f"{tool}, which is not on the PATH")
+        page = text_of(ROOT / "docs" / "EMBEDDING.md")
+        row = rf"^\|[^|]+\|[^|]+\| `({re.escape(tool)} [^`]+)`(?:, in (DIR/[\w-]+))? \|$"
+        command, inside = re.search(row, page, re.MULTILINE).groups()
+        folder = pathlib.Path(self.enterContext(tempfile.TemporaryDirectory()))
+        shutil.copytree(test_embed.OUT, folder / "DIR")
+        shutil.copytree(ROOT / "examples", folder / "examples")
+        settings = {**os.environ, "CARGO_NET_OFFLINE": "true"}
+        began = time.monotonic()
+        output = outcome_of(["/bin/sh", "-c", command], cwd=folder / (inside or "."), env=settings,
+                            seconds=test_embed.SECONDS_TO_BUILD)
+        self.assertEqual(output.status, 0, output.errors[-4_000:].decode())
+        if (folder / "a.out").is_file():
+            output = outcome_of([folder / "a.out"])
+        self.summary += f", then `{command}` in {time.monotonic() - began:.1f} s"
+        return output.output
+
+    def test_build(self):
+        rows = [takes for command, takes in ways() if command == "embed/build"]
+        self.says(len(rows), f"ways (README: {', '.join(rows)})", 2)
+
+    def test_model(self):
+        self.assertEqual(self.first("python3").splitlines()[:2], [b"agent 0", b"ends 0 1"])
+
+    def test_c(self):
+        self.assertEqual(self.first("cc"), test_embed_ports.SAID)
+
+    def test_cpp(self):
+        self.assertEqual(self.first("c++"), test_embed_ports.WORKER_SAID)
+
+    def test_rust(self):
+        self.assertEqual(self.first("cargo"), test_embed_ports.WORKER_SAID)
+
+    def test_scripts(self):
+        if not test_runtime.has_engine():
+            self.skipTest("libmozjs-102-dev with g++ and pkg-config")
+        began = time.monotonic()
+        program = test_runtime.built("varukoni-js")
+        output = self.ran([program, ROOT / "examples" / "runtime" / "ports.js"]).decode()
+        self.assertIn(f"\n{output}```", text_of(ROOT / "docs" / "EMBEDDING.md"))
+        self.summary += f", then `embed/runtime/build` in {time.monotonic() - began:.1f} s"
 
 
 class Links(support.TestCase):
