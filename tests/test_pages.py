@@ -239,6 +239,8 @@ class FirstBuilds(test_embed.Embedded):
 
     def setUp(self):
         is_built = (test_embed.OUT / "BUILT").is_file()
+        if not (is_built or os.access(support.BUILT, os.X_OK)):
+            self.skipTest("what `rt ci` builds, without which embed/build proves all crates")
         began = time.monotonic()
         super().setUp()
         took = time.monotonic() - began
