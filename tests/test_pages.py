@@ -164,7 +164,11 @@ def ways():
     """The rows of README's table of ways: the first command, and what it needs and takes."""
     _, _, part = text_of(README).partition("\n## Six ways to use it\n")
     row = r"^\|[^|]+\| `([^`]+)`[^|]*\| ([^|]+) \|[^|]+\|$"
-    return re.findall(row, part.partition("\n## ")[0], re.MULTILINE)
+    rows, before = [], ""
+    for command, takes in re.findall(row, part.partition("\n## ")[0], re.MULTILINE):
+        before = takes.replace("the same", before)
+        rows.append((command, before))
+    return rows
 
 
 class FirstCommands(support.TestCase):
