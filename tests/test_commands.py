@@ -36,6 +36,7 @@ WRONG = {
                    ["--program", "/nowhere/at/all", "x"],
                    ["--expect", "/nowhere/at/all", "examples/two_windows.script"]],
     "tools/report": [["/nowhere/at/all"], ["--most", "0"], ["--script", "/nowhere/at/all"]],
+    "tools/rests-on": [[], ["no_such_crate", "Headline"], ["hub_core", "NoSuchName"]],
     "tools/release": [["--to"], ["--to", "/dev/null"]],
     "tools/steps-of": [["/nowhere/at/all"], ["--states", "x"]],
     "tools/why": [["/nowhere/at/all"], ["/"], ["a", "b"]],

@@ -202,7 +202,7 @@ class Wrappers(Embedded):
 
 class Models(Embedded):
     def outcome(self, *words):
-        program = EMBED / "python" / "model_test.py"
+        program = OUT / "python" / "model_test.py"
         found = outcome_of([sys.executable, "-B", program, *words], seconds=200)
         self.assertEqual(found.errors, b"", found.errors[-4_000:].decode())
         return found

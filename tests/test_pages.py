@@ -10,6 +10,7 @@ by the last line of the output, as docs/FORMATS.md says.
 """
 
 import collections
+import os
 import pathlib
 import re
 import shutil
@@ -19,6 +20,9 @@ import tempfile
 import time
 
 import support
+import test_embed
+import test_embed_ports
+import test_runtime
 from support import MODES, PROGRAM, ROOT, Outcome, outcome_of
 
 import cratelist
@@ -34,12 +38,14 @@ TESTED = "YOUR_HUB.md"
 SESSION = re.compile(r"^```console\n((?:.*\n)*?)```$", re.MULTILINE)
 BESIDE = re.compile(r"^```steps\n((?:.*\n)*?)```$", re.MULTILINE)
 EXCERPT = re.compile(r"^From `([^`]+)`[^\n]*:\n\n```rust\n((?:.*\n)*?)```$", re.MULTILINE)
-LINK = re.compile(r"\[[^]]*\]\(([^)#\s]*)(#[^)\s]*)?\)")
+LINK = re.compile(r"\[([^]]*)\]\(([^)#\s]*)(#[^)\s]*)?\)")
 NAMED = re.compile(r"`([a-z_0-9]+\.rt)`")
 SHOWN = re.compile(rf"(?:(cat|tools/\w+)|\./messagehub ({'|'.join(MODES)}) <) (\S+)")
 BAD_INPUT = re.compile(rb"line [0-9]+: [A-Za-z0-9()]+")
 # Commands that are shown and not run: they prove, build without proofs, or build a library.
-LEFT = re.compile(r"\.ci/run|\./messagehub --unproved .*|embed/build .*|python3 embed/python/.*")
+LEFT = re.compile(
+    r"\.ci/run|\./messagehub --unproved .*|embed/build .*|python3 /opt/varukoni/python/.*"
+)
 
 MOST_WORDS = {"README.md": 1_400, "a crate": 250, "all": 31_000}
 
@@ -121,17 +127,16 @@ class Sessions(support.TestCase):
         self.says(ran.total() - ran["cat"] - sum(runs), "commands of tools", 3)
 
     def test_steps_beside_outcomes(self):
-        pairs = [
-            (step.rstrip(), outcome)
-            for page in PAGES
-            for block in BESIDE.findall(text_of(page))
-            for line in block.splitlines()
-            for step, outcome in [re.split(r" {2,}", line, maxsplit=1)]
-        ]
-        text = "".join(f"{step}\n" for step, _ in pairs).encode()
-        wanted = "".join(f"{outcome}\n" for _, outcome in pairs).encode()
-        self.assertEqual(outcome_of([PROGRAM, "steps"], text).output, wanted)
-        self.says(len(pairs), "step lines", 10)
+        """Each block of a page is the whole input of a hub, with its outcomes beside it."""
+        count = 0
+        for page, block in [(it, block) for it in PAGES for block in BESIDE.findall(text_of(it))]:
+            pairs = [re.split(r" {2,}", line, maxsplit=1) for line in block.splitlines()]
+            text = "".join(f"{step}\n" for step, _ in pairs).encode()
+            wanted = "".join(f"{outcome}\n" for _, outcome in pairs).encode()
+            with self.subTest(page=page.name):
+                self.assert_outcome(outcome_of([PROGRAM, "steps"], text), Outcome(wanted, b"", 0))
+            count += len(pairs)
+        self.says(count, "step lines", 20)
 
     def test_examples_of_formats(self):
         """Where an example of docs/FORMATS.md is one whole step line, it gives the word beside."""
@@ -155,44 +160,182 @@ class Sessions(support.TestCase):
         self.says(len(shown), "excerpts", 8)
 
 
+def ways():
+    """The rows of README's table of ways: the first command, and what it needs and takes."""
+    _, _, part = text_of(README).partition("\n## Six ways to use it\n")
+    row = r"^\|[^|]+\| `([^`]+)`[^|]*\| ([^|]+) \|[^|]+\|$"
+    rows, before = [], ""
+    for command, takes in re.findall(row, part.partition("\n## ")[0], re.MULTILINE):
+        before = takes.replace("the same", before)
+        rows.append((command, before))
+    return rows
+
+
 class FirstCommands(support.TestCase):
-    """What README's table of ways says of those that want Python alone."""
+    """The first commands of README's table of ways, where a fresh clone has nothing else."""
+
+    # What the launcher calls, beside Python. There is no rt, no compiler and no browser.
+    LAUNCHERS = ("bash", "cat", "env", "readlink", "sed", "sh")
+    PARTS = ("CHANGELOG.md", "crates.txt", "examples", "messagehub", "record", "tools")
+
+    def clone(self, *tools):
+        """A folder with what git keeps of these parts, and a path with these tools alone."""
+        if shutil.which("git") and (ROOT / ".git").exists():
+            listed = self.ran(["git", "ls-files", "-z", *self.PARTS], cwd=ROOT).decode()
+            names = [name for name in listed.split("\0") if name]
+        else:
+            found = [ROOT / name for name in self.PARTS]
+            found += [path for folder in found for path in folder.rglob("*")]
+            names = [path.relative_to(ROOT) for path in found if path.is_file()]
+        for name in names:
+            (self.folder / name).parent.mkdir(parents=True, exist_ok=True)
+            shutil.copy2(ROOT / name, self.folder / name)
+        (self.folder / "bin").mkdir()
+        (self.folder / "bin" / "python3").symlink_to(sys.executable)
+        for name in tools:
+            (self.folder / "bin" / name).symlink_to(shutil.which(name))
+
+    def run_first(self, rows):
+        """Runs each command there, and tells its time beside what README says."""
+        told = []
+        for command, takes in rows:
+            began = time.monotonic()
+            found = subprocess.run(["/bin/sh", "-c", command], cwd=self.folder, check=False,
+                                   capture_output=True, env={"PATH": str(self.folder / "bin")})
+            told.append(f"`{command}` in {time.monotonic() - began:.1f} s (README: {takes})")
+            _, _, target = command.partition(" > ")
+            with self.subTest(command=command):
+                self.assertEqual((found.stderr, found.returncode), (b"", 0))
+                given = (self.folder / target).read_bytes() if target else found.stdout
+                self.assertGreater(given.count(b"\n"), 2, "it gives too little")
+        self.says(len(rows), f"ways: {', '.join(told)}", 2)
+
+    def test_rows(self):
+        """Each row stands in a test: here, or where `embed/build` has built."""
+        rows = ways()
+        alone = [takes for command, takes in rows if takes == "Python 3.11; a second"]
+        self.assertEqual(len(rows) - len(alone), len([
+            command for command, _ in rows
+            if command.startswith(("./messagehub steps <", "tools/play ", "embed/build"))
+        ]))
+        self.says(len(rows), "ways", 6)
 
     def test_python_alone(self):
-        """Their first commands run where there is nothing else, in about the time that it says."""
-        rows = re.findall(r"^\|[^|]+\| `([^`]+)`[^|]*\| Python 3\.11; a second \|",
-                          text_of(README), re.MULTILINE)
-        with tempfile.TemporaryDirectory() as name:
-            folder = pathlib.Path(name)
-            for part in ("examples", "record", "tools"):
-                shutil.copytree(ROOT / part, folder / part)
-            (folder / "bin").mkdir()
-            (folder / "bin" / "python3").symlink_to(sys.executable)
-            took = []
-            for row in rows:
-                began = time.monotonic()
-                found = subprocess.run(["/bin/sh", "-c", row], cwd=folder, capture_output=True,
-                                       env={"PATH": str(folder / "bin")}, check=False)
-                took.append(f"{time.monotonic() - began:.1f}")
-                with self.subTest(command=row):
-                    self.assertEqual((found.stderr, found.returncode), (b"", 0))
-        self.says(len(rows), f"ways, in {' and '.join(took)} s", 2)
+        self.clone()
+        self.run_first([row for row in ways() if row[1] == "Python 3.11; a second"])
+
+    def test_program(self):
+        """With the program that CI has built: its build is no part of the time."""
+        if not support.IS_BUILT:
+            self.skipTest("the program, which `rt ci` builds")
+        out = self.folder / "crates" / "messagehub" / "out"
+        out.mkdir(parents=True)
+        shutil.copy2(PROGRAM, out / "messagehub")
+        (out / "messagehub.sources").touch()
+        self.clone(*self.LAUNCHERS)
+        self.run_first([it for it in ways() if it[0].startswith(("./messagehub", "tools/play"))])
+
+
+class FirstBuilds(test_embed.Embedded):
+    """The rows of README's table that `embed/build` serves, and those of docs/EMBEDDING.md."""
+
+    time_limit = test_embed.SECONDS_TO_BUILD + test_runtime.SECONDS
+
+    def setUp(self):
+        is_built = (test_embed.OUT / "BUILT").is_file()
+        if not (is_built or os.access(support.BUILT, os.X_OK)):
+            self.skipTest("what `rt ci` builds, without which embed/build proves all crates")
+        began = time.monotonic()
+        super().setUp()
+        took = time.monotonic() - began
+        self.summary = f"embed/build {'built before' if is_built else f'in {took:.0f} s'}"
+
+    def first(self, tool):
+        """Runs the row's command that begins with the tool, in a folder with what was built."""
+        if shutil.which(tool) is None:
+            self.skipTest(f"{tool}, which is not on the PATH")
+        page = text_of(ROOT / "docs" / "EMBEDDING.md")
+        row = rf"^\|[^|]+\|[^|]+\| `({re.escape(tool)} [^`]+)`(?:, in (DIR/[\w-]+))? \|$"
+        command, inside = re.search(row, page, re.MULTILINE).groups()
+        folder = pathlib.Path(self.enterContext(tempfile.TemporaryDirectory()))
+        shutil.copytree(test_embed.OUT, folder / "DIR")
+        shutil.copytree(ROOT / "examples", folder / "examples")
+        settings = {**os.environ, "CARGO_NET_OFFLINE": "true"}
+        began = time.monotonic()
+        output = outcome_of(["/bin/sh", "-c", command], cwd=folder / (inside or "."), env=settings,
+                            seconds=test_embed.SECONDS_TO_BUILD)
+        self.assertEqual(output.status, 0, output.errors[-4_000:].decode())
+        if (folder / "a.out").is_file():
+            output = outcome_of([folder / "a.out"])
+        self.summary += f", then `{command}` in {time.monotonic() - began:.1f} s"
+        return output.output
+
+    def test_build(self):
+        rows = [takes for command, takes in ways() if command == "embed/build"]
+        self.says(len(rows), f"ways (README: {', '.join(rows)})", 2)
+
+    def test_model(self):
+        self.assertEqual(self.first("python3").splitlines()[:2], [b"agent 0", b"ends 0 1"])
+
+    def test_c(self):
+        self.assertEqual(self.first("cc"), test_embed_ports.SAID)
+
+    def test_cpp(self):
+        self.assertEqual(self.first("c++"), test_embed_ports.WORKER_SAID)
+
+    def test_rust(self):
+        self.assertEqual(self.first("cargo"), test_embed_ports.WORKER_SAID)
+
+    def test_scripts(self):
+        if not test_runtime.has_engine():
+            self.skipTest("libmozjs-102-dev with g++ and pkg-config")
+        began = time.monotonic()
+        program = test_runtime.built("varukoni-js")
+        output = self.ran([program, ROOT / "examples" / "runtime" / "ports.js"]).decode()
+        self.assertIn(f"\n{output}```", text_of(ROOT / "docs" / "EMBEDDING.md"))
+        self.summary += f", then `embed/runtime/build` in {time.monotonic() - began:.1f} s"
 
 
 class Links(support.TestCase):
     def test_links(self):
         count = 0
         for page in [*PAGES, *OTHERS]:
-            for target, anchor in LINK.findall(text_of(page)):
+            for _, target, anchor in LINK.findall(text_of(page)):
                 if re.match(r"\w+:", target):
                     continue
                 with self.subTest(page=page.name, link=target + anchor):
                     count += 1
                     path = (page.parent / target) if target else page
                     self.assertTrue(path.exists())
-                    if anchor:
+                    if anchor and path.suffix == ".md":
                         self.assertIn(anchor, anchors(path))
         self.says(count, "links", 20)
+
+    def test_clauses(self):
+        """Where a link ends in a line of a source, that line declares what the link names."""
+        shown = [(page, *it) for page in PAGES for it in LINK.findall(text_of(page))]
+        shown = [it for it in shown if it[2].endswith((".rt", ".antt"))]
+        for page, text, target, anchor in shown:
+            with self.subTest(page=page.name, link=text):
+                self.assertRegex(anchor, r"^#L[1-9]\d*$")
+                name = re.findall(r"\w+", text)[-1]
+                line = text_of(page.parent / target).splitlines()[int(anchor[2:]) - 1]
+                words = r"fn|struct|trait|ensures|ghost|abbrev|record|pub"
+                self.assertRegex(line, rf"^\s*(?:pub )?[^/={{]*\b(?:{words}) {name}\b")
+        self.ran([ROOT / "tools" / "links", "--check"])
+        self.says(len(shown), "clauses and definitions", 150)
+
+    def test_promises(self):
+        """Each promise of the first parts names a clause, by a link."""
+        page = text_of(ROOT / "docs" / "PROMISES.md")
+        parts = re.split(r"^## ", page, flags=re.MULTILINE)
+        heads = ("The state machine", "Values and texts", "The parts that threads share")
+        rows = [row for part in parts if part.startswith(heads)
+                for row in re.findall(r"^- .*", part, re.MULTILINE)]
+        for row in rows:
+            with self.subTest(row=row[:60]):
+                self.assertRegex(row, r"\]\(\.\./crates/[^)]*#L\d+\)")
+        self.says(len(rows), "promises", 30)
 
     def test_crates(self):
         names, _ = crates()
@@ -238,6 +381,21 @@ class Links(support.TestCase):
         self.says(len(files), "files", 150)
 
 
+    def test_notation(self):
+        """The legend of docs/DEFINITIONS.md has each sign that the definitions are written with."""
+        page = text_of(ROOT / "docs" / "DEFINITIONS.md")
+        legend = re.search(r"^## How to read them\n(.*?)^## ", page, re.MULTILINE | re.DOTALL)[1]
+        signs = collections.Counter()
+        for path in (ROOT / "crates").glob("*/specs/*.antt"):
+            code = re.sub(r'--.*|"[^"]*"', "", text_of(path))
+            signs.update(re.findall(r"[^\x00-\x7f]|&&|\|\||==|>>=|\+\+", code))
+        plain = legend.replace("\\|", "|")
+        for sign in (it for it, count in signs.items() if count >= 5):
+            with self.subTest(sign=sign, count=signs[sign]):
+                self.assertIn(sign, plain)
+        self.says(len(signs), "signs", 20)
+
+
 class Counts(support.TestCase):
     def test_words(self):
         for page in CRATE_PAGES:
@@ -247,6 +405,45 @@ class Counts(support.TestCase):
         total = sum(words_of(page) for page in PAGES)
         self.assertLessEqual(total, MOST_WORDS["all"])
         self.says(len(PAGES), f"pages of {total:,} words", 40)
+
+    def test_sizes(self):
+        """docs/PROMISES.md has the crates' sizes, but for tests and examples, to a hundredth."""
+        names = {it for it in cratelist.lines() if not it.endswith("_tests")}
+        names -= {"hub_player", "hub_test_parts", "example_core", "example_loops"}
+        sizes = [
+            sum(text_of(path).count("\n") for name in names
+                for path in (ROOT / "crates" / name / part).rglob(f"*.{suffix}"))
+            for part, suffix in (("src", "rt"), ("specs", "antt"), ("proofs", "antt"))
+        ]
+        said = re.search(r"([\d,]+) lines of code, ([\d,]+) of definitions and ([\d,]+) of proof",
+                         text_of(ROOT / "docs" / "PROMISES.md")).groups()
+        for size, word in zip(sizes, said):
+            self.assertLess(abs(size - int(word.replace(",", ""))), size / 100, (sizes, said))
+        self.says(sum(sizes), "lines", 70_000)
+
+    def test_lines_to_believe(self):
+        """What docs/PROMISES.md has one read for the headline is what `tools/rests-on` counts."""
+        rows = self.ran([ROOT / "tools" / "rests-on", "hub_core", "Headline"]).decode()
+        found = re.findall(r"^ *(\d+) of +\d+  .*/(\w+)\.antt$", rows, re.MULTILINE)
+        listed = ", ".join(f"{name} {count}" for count, name in found)
+        page = text_of(ROOT / "docs" / "PROMISES.md")
+        total = sum(int(count) for count, _ in found)
+        self.assertIn(f"by `tools/rests-on hub_core Headline` {total} lines: {listed} (", page)
+        self.says(total, "lines", 500)
+
+    def test_unsafe(self):
+        """The command of docs/PROMISES.md shows as many exports as it says, and two lines more."""
+        page = text_of(ROOT / "docs" / "PROMISES.md")
+        shown = re.search(r"`(git grep [^`]+)` finds (\d+) exports to C, and two", page)
+        command, exports = shown.groups()
+        if shutil.which("git") is None or not (ROOT / ".git").exists():
+            self.skipTest("git, or a clone")
+        lines = self.ran(["/bin/sh", "-c", command], cwd=ROOT).decode().splitlines()
+        boxes = [line for line in lines if "#[unsafe(no_mangle)]" not in line]
+        self.assertEqual(len(lines) - len(boxes), int(exports))
+        self.assertEqual([line.split("unsafe")[1] for line in boxes],
+                         [" { Box::from_raw(alloc, ptr) }"] * 2)
+        self.says(len(lines), "lines", 30)
 
     def test_edits(self):
         gate = len(list((ROOT / "crates").glob("*/must-fail/*.edit")))
@@ -259,6 +456,7 @@ class Counts(support.TestCase):
         version = re.search(r"^## ([0-9.]+)", text_of(ROOT / "CHANGELOG.md"), re.MULTILINE)[1]
         told = outcome_of([ROOT / "messagehub", "--version"], None).output.decode().split()
         self.assertEqual(told[:2], ["messagehub", version])
-        cargo = text_of(ROOT / "embed" / "rust" / "Cargo.toml")
-        self.assertIn(f'\nversion = "{version}"\n', cargo)
-        self.says(2, "versions")
+        for crate in ("rust", "rust-ports"):
+            cargo = text_of(ROOT / "embed" / crate / "Cargo.toml")
+            self.assertIn(f'\nversion = "{version}"\n', cargo)
+        self.says(3, "versions")

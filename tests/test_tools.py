@@ -1,4 +1,4 @@
-"""Tests of tools/edits, tools/clauses, tools/costs and tools/build that need no toolchain."""
+"""Tests of tools/edits, clauses, links, rests-on, costs and build that need no toolchain."""
 
 import importlib.machinery
 import importlib.util
@@ -40,6 +40,96 @@ LOST_NAME = (
 )
 COMPILER = "src/word.rt:6:1: error[unknown-name]: no such name\n"
 ADVICE = "./proofs/Word.antt:11:5: note: large solution\n"
+
+
+SOURCE = """// ensures order { .. } of nobody
+pub fn run(
+    steps: u8,
+) -> u8
+    ensures each { result ≡ 1 }
+    ensures order { result ≡ 1 }
+{
+    1
+}
+
+impl Poster {
+    pub fn post(&self) -> u8
+        ensures post { result ≡ 2 }
+        ensures order { result ≡ 2 }
+    {
+        2
+    }
+}
+"""
+TERMS = """-- record Order
+pub record Order (h : History) : Type 0 where
+  pub first : h ≡ h
+
+abbrev pub taken : History → ℕ
+taken h = 0
+"""
+
+
+class Links(support.TestCase):
+    """tools/links finds what a link names, also where its source has grown above it."""
+
+    def page(self, *links):
+        text = "".join(f"- ([{text}](../crates/{to}#L{at}))\n" for text, to, at in links)
+        return self.write("docs/PAGE.md", text)
+
+    def test_shifted_lines(self):
+        """A line put above a clause makes its link wrong; it is told, and then right again."""
+        links = [
+            ("`run`, `order`", "a.rt", 6), ("`each`", "a.rt", 5), ("`run`", "a.rt", 2),
+            ("`Poster::post`", "a.rt", 12), ("`Poster::post`, `post`", "a.rt", 13),
+            ("`post`, `order`", "a.rt", 14), ("Order", "b.antt", 2),
+            ("`Order`, `first`", "b.antt", 3), ("`taken`", "b.antt", 5),
+        ]
+        followed = tool("links").followed
+        for shift in (0, 3):
+            self.write("crates/a.rt", "// more\n" * shift + SOURCE)
+            self.write("crates/b.antt", "-- more\n" * shift + TERMS)
+            moved = [(text, to, at + shift) for text, to, at in links]
+            wanted = self.page(*moved).read_text("utf-8")
+            self.assertEqual(followed(self.page(*moved)), (wanted, [], []))
+            text, wrong, astray = followed(self.page(*links))
+            self.assertEqual((text, len(wrong), astray), (wanted, len(links) if shift else 0, []))
+        self.assertIn("PAGE.md: `each` in ../crates/a.rt: line 5 is 8 now", wrong)
+        self.says(len(links), "links", 9)
+
+    def test_links_that_lead_nowhere(self):
+        self.write("crates/a.rt", SOURCE)
+        page = self.page(("`order`", "a.rt", 6), ("`gone`", "a.rt", 5), ("`run`", "c.rt", 2))
+        text, wrong, astray = tool("links").followed(page)
+        self.assertEqual((text, wrong), (page.read_text("utf-8"), []))
+        told = [it.rpartition(": ")[2] for it in astray]
+        self.assertEqual(told, ["it stands at 2 lines [6, 14]", *["it stands at 0 lines []"] * 2])
+        self.says(len(astray), "links", 3)
+
+
+class RestsOn(support.TestCase):
+    """tools/rests-on counts what a definition cites, through lists of names and modules."""
+
+    FILES = {
+        "Words": "pub use Rattle.one.specs.Low.{far}\n",
+        "Low": "-- Far is low.\nabbrev pub far : \u2115\nfar = 1\n\nabbrev pub unread : \u2115\n",
+        "Side": "-- About deep and unread.\nabbrev pub deep : \u2115\ndeep = deep_in 3\n",
+        "High": "use Rattle.one.specs.Words.{far, unread}\nuse Rattle.one.specs.Side as side\n\n"
+                "pub record High : Type 0 where\n  pub one : far \u2261 side.deep\n"
+                "  -- Here unread is named alone.\n",
+    }
+
+    def test_lines(self):
+        for name, text in self.FILES.items():
+            self.write(f"crates/one/specs/{name}.antt", text)
+        module = tool("rests-on")
+        module.CRATES = self.folder / "crates"
+        reader = module.Reader()
+        high = module.CRATES / "one" / "specs" / "High.antt"
+        reader.add(high, "High")
+        found = [(count, whole, path.stem) for count, whole, path in reader.rows(high)]
+        self.assertEqual(found, [(3, 5, "Low"), (3, 3, "Side"), (3, 6, "High")])
+        self.says(len(found), "files", 3)
 
 
 class Edits(support.TestCase):
