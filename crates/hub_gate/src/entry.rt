@@ -133,7 +133,7 @@ impl<T: Right> Model for Inside<T> {
 
 impl<T: Right> Inside<T> {
     ghost use Rattle.std.specs.Borrow.{Lends, sem};
-    ghost use Rattle.hub_gate.specs.contracts.inside.Inside.{the_row};
+    ghost use Rattle.hub_gate.specs.contracts.entry.Inside.{the_row};
     ghost use Rattle.hub_gate.specs.Entering.{IsLetOut, left_seat};
     ghost use Rattle.hub_gate.specs.GateSeats.{with_right};
 
