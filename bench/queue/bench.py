@@ -31,7 +31,7 @@ that the best ones alone say little.
 from measure import ANY, prints, rate, ratio, scaled
 
 BUILDS = {
-    "queue": ["hub_core", "hub_depot", "hub_envelope", "hub_queue"],
+    "queue": ["hub_depot", "hub_envelope", "hub_queue", "hub_test_parts"],
     "queue_alone": ["crossbeam_queue", "crossbeam_utils", "hub_envelope"],
 }
 MESSAGES = 1_000_000
