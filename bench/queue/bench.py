@@ -49,9 +49,7 @@ BOUNDS_OF_FOUR = {**BOUNDS, COUNTED: (0.9, "median")}
 
 def run(bench):
     mailbox, alone = bench.built("queue"), bench.built("queue_alone")
-    channels = {"mpsc": bench.rust("queue/reference.rs")}
-    for crate, features in CRATES.items():
-        channels[crate] = bench.rust_over(crate, "queue/reference.rs", features)
+    channels = bench.channels("queue/reference.rs", CRATES)
     report(bench, "1 to 1", BOUNDS, bench.in_turns({
         **jobs_of(mailbox, channels, alone, posters=1),
         **jobs_of_one(mailbox, bench.node("ports/reference.mjs")),
