@@ -1,8 +1,9 @@
-// Does step files on Node's MessageChannel and BroadcastChannel. tests/node draws them, and says more.
+// Does step files on Node's MessageChannel and BroadcastChannel. tests/node draws them, and says
+// more.
 //
-// Standard input has a line of JSON for each file: pairs of a step line and its outcome. A take has to
-// give the same body and the same ports here, and a cast has to be refused where it is there. A line
-// of JSON is printed for each file: how much was compared, and what is wrong, or null.
+// Standard input has a line of JSON for each file: pairs of a step line and its outcome. A take has
+// to give the same body and the same ports here, and a cast has to be refused where it is there. A
+// line of JSON is printed for each file: how much was compared, and what is wrong, or null.
 import { BroadcastChannel, MessageChannel, receiveMessageOnPort } from 'node:worker_threads';
 import { readFileSync } from 'node:fs';
 
