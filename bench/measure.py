@@ -368,9 +368,13 @@ def compiled(compiler, words, made, what, **options):
     """The program that a compiler makes, or why there is none."""
     if compiler.gap:
         return compiler
-    answer = subprocess.run([*compiler.words, *words], stdout=sys.stderr, **options)
-    if answer.returncode != 0:
-        return Program(gap=Gap(f"{what} ended with status {answer.returncode}"))
+    words = [*compiler.words, *words]
+    process = subprocess.Popen(words, stdout=sys.stderr, start_new_session=True, **options)
+    try:
+        if (status := status_of(process)) != 0:
+            raise Failure(described(status, ""))
+    except Failure as failure:
+        return Program(gap=Gap(f"{what}: {failure}"))
     return Program((made,))
 
 
@@ -454,14 +458,15 @@ class Bench:
             folder, beside, name=name, source=str(HERE / source), crate=crate,
             features=list(features), registry=str(self.options.registry),
         )
-        words = [*cargo.words, "build", "--quiet", "--release", "--offline", "--target-dir", "out"]
-        process = subprocess.Popen(words, cwd=folder, stdout=sys.stderr, start_new_session=True)
-        try:
-            if (status := status_of(process)) != 0:
-                raise Failure(described(status, ""))
-        except Failure as failure:
-            return Program(gap=Gap(f"cargo build of {source} over {crate}: {failure}"))
-        return Program((folder / "out" / "release" / name,))
+        words = ["build", "--quiet", "--release", "--offline", "--target-dir", "out"]
+        made = folder / "out" / "release" / name
+        return compiled(cargo, words, made, f"cargo build of {source} over {crate}", cwd=folder)
+
+    def channels(self, source, crates):
+        """The programs of a source over the channels of Rust's library, and of each of the crates,
+        which have the features that they need beside the default ones."""
+        others = {it: self.rust_over(it, source, features) for it, features in crates.items()}
+        return {"mpsc": self.rust(source), **others}
 
     @functools.cached_property
     def library(self):
@@ -563,6 +568,12 @@ class Bench:
         """A figure of which the best, the median or the highest may be so much at most."""
         met = "yes" if getattr(figure, on) <= bound else "no"
         self.report.add(f"{self.name}, {name}", figure, unit, f"{on} at most {bound}", met)
+
+    def beside_half(self, bound, name, whole, half):
+        """How much longer so much takes than half of it, where that was timed too."""
+        if half:
+            beside = ratio(whole.seconds, half.seconds)
+            self.at_most(bound, f"{name}, beside half", beside, "times")
 
     def at_least(self, bound, name, figure, unit="", on="best"):
         """A figure of which the best or the median has to be so much at least."""

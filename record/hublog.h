@@ -65,8 +65,9 @@ static inline enum hublog_answer hublog_write(struct hublog *log, const char *li
             return HUBLOG_IO;
         written += count > 0 ? (size_t)count : 0;
     }
+    /* A put alone can be taken back. */
+    log->before = line[0] == 'p' ? log->size : -1;
     log->size += (off_t)length;
-    log->before = -1;
     return HUBLOG_DONE;
 }
 
@@ -149,12 +150,7 @@ static inline enum hublog_answer hublog_put(struct hublog *log, uint32_t end, ui
                                             uint32_t epoch, uint64_t number, const uint32_t *ports,
                                             size_t count, const void *body, size_t length)
 {
-    off_t before = log->size;
-    enum hublog_answer answer =
-        hublog_message(log, "put", end, on, epoch, number, ports, count, body, length);
-    if (answer == HUBLOG_DONE)
-        log->before = before;
-    return answer;
+    return hublog_message(log, "put", end, on, epoch, number, ports, count, body, length);
 }
 
 /* The put that was the last entry was refused by the hub: it is taken out of the file. */
@@ -194,11 +190,7 @@ static inline enum hublog_answer hublog_notice(struct hublog *log, const char *w
 static inline enum hublog_answer hublog_put_notice(struct hublog *log, uint32_t end, uint32_t on,
                                                    uint32_t epoch, uint64_t number)
 {
-    off_t before = log->size;
-    enum hublog_answer answer = hublog_notice(log, "put", end, on, epoch, number);
-    if (answer == HUBLOG_DONE)
-        log->before = before;
-    return answer;
+    return hublog_notice(log, "put", end, on, epoch, number);
 }
 
 /* The last message of a line was delivered. */

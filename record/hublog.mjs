@@ -208,9 +208,11 @@ class BodyWriter {
   }
 }
 
-function bodyText(body) {
-  const writer = new BodyWriter([]);
+/** The text of a body, or of the digest in its place, with the ends that are too many for a list. */
+function bodyText(body, ports = [], ends = []) {
+  const writer = new BodyWriter(ports);
   const text = writer.value(body, 0);
+  if (ends.length > MOST_PORTS) return digestOf(encoder.encode(`${ends} ${text}`));
   const bytes = encoder.encode(text);
   return writer.isBody && bytes.length <= MOST_BYTES ? text : digestOf(bytes);
 }
@@ -218,16 +220,7 @@ function bodyText(body) {
 /** `LIST BODY` of an entry. The states are those of the ports, null of one that was sent. */
 function contentOf(body, ports, states) {
   const ends = states.filter(Boolean).map((state) => state.end);
-  const writer = new BodyWriter(ports);
-  let text = writer.value(body, 0);
-  let bytes = encoder.encode(text);
-  if (ends.length > MOST_PORTS) {
-    bytes = encoder.encode(`${ends} ${text}`);
-    text = digestOf(bytes);
-  } else if (!writer.isBody || bytes.length > MOST_BYTES) {
-    text = digestOf(bytes);
-  }
-  return `${ends.slice(0, MOST_PORTS).join(',') || '-'} ${text}`;
+  return `${ends.slice(0, MOST_PORTS).join(',') || '-'} ${bodyText(body, ports, ends)}`;
 }
 
 // Where a log goes
@@ -763,9 +756,7 @@ function recordOnNode(options) {
 // Browsers
 
 function recordInBrowser({ agent, sink }) {
-  if (!Number.isInteger(agent) || agent < 0 || agent >= MOST_AGENTS) {
-    throw new RecordError('NoAgent', `the agent is no number below ${MOST_AGENTS}`);
-  }
+  within('NoAgent', agent, MOST_AGENTS);
   if (typeof sink !== 'function') throw new RecordError('NoSink', 'the sink is no function');
   const first = MOST_AGENTS + agent * ENDS_OF_AGENT;
   let count = 0;

@@ -47,6 +47,7 @@ WRONG = {
     "tools/clauses": [["no_such_crate"]],
     "tools/costs": [[], ["/dev/null"], ["/dev/null", "/nowhere/at/all"]],
     "tools/edits": [["no_such_crate"], ["--jobs", "-1"]],
+    "tools/functions": [[], ["no_such_crate"]],
 }
 # The scripts that read logs, or a script, each with the words before its input.
 READERS = {

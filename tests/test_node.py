@@ -37,8 +37,8 @@ support.add_tests(Node, Node.compare, {f"seed_{seed}": seed for seed in SEEDS})
 class Refusals(support.TestCase):
     @needs_node
     def test_counts(self):
-        others = [[], ["0", "300", "1"], ["abc", "300", "1"], ["500", "0", "1"], ["1", "1"]]
-        call = ["node", TESTS / "node.mjs", PROGRAM]
+        others = [["--files=0"], ["--files=abc"], ["--lines=0"], ["--seed=0"], ["1"]]
+        call = [TESTS / "node", PROGRAM]
         self.each(others, "calls", lambda words: self.assert_refused([*call, *words]))
 
     @needs_node

@@ -1,5 +1,6 @@
 """Tests of the recorders of record/: on Node's own channels, and those of Python, Rust and C."""
 
+import collections
 import importlib.util
 import os
 import pathlib
@@ -32,6 +33,13 @@ class Case(support.TestCase):
         for word, status in [("--json", 2 if is_cut else 0), ("--allow-cut", 0)]:
             self.ran([*words, word], status=status)
 
+    def says_words(self, logs, floor):
+        """Says how many entries of each word all these logs have."""
+        lines = (line for text in logs for line in text.decode().splitlines())
+        words = collections.Counter(line.partition(" ")[0] for line in lines)
+        for word in ("put", "got", "adopted", "closed"):
+            self.says(words[word], word, floor)
+
     def verdict(self, logs):
         """What the second checker says of logs, and the program, where there is one."""
         checkers = [[ROOT / "tools" / "judge"]]
@@ -42,10 +50,6 @@ class Case(support.TestCase):
         return verdicts.pop().rstrip("\n")
 
 
-def words_of(logs, word):
-    return sum(line.startswith(word) for line in logs.splitlines())
-
-
 @needs_node
 class Node(Case):
     time_limit = 240
@@ -53,15 +57,12 @@ class Node(Case):
     def run_part(self, part):
         seeds = [seed for seed in SEEDS if seed % PARTS == part]
         self.faults = planted.Planted()
-        total = {b"put": 0, b"got": 0, b"adopted": 0, b"closed": 0}
+        logs = []
         for seed in seeds:
             with self.subTest(seed=seed):
-                logs = self.run_seed(seed)
-                for word in total:
-                    total[word] += words_of(logs, word + b" ")
+                logs.append(self.run_seed(seed))
         self.says(len(seeds) * PROGRAMS, "programs", 25)
-        for word, count in total.items():
-            self.says(count, word.decode(), 20 * len(seeds))
+        self.says_words(logs, 20 * len(seeds))
         if not part % 2:
             self.faults.says(self, 1)
 

@@ -123,8 +123,7 @@ class Browsers(test_record.Case):
         said, runs = self.visit(name, f"page.html?seed=1&last={SEEDS}", 200)
         version = re.search(r"(?:Firefox|Chrome)/[0-9.]+", said)
         self.assertTrue(version, said)
-        total = {b"put": 0, b"got": 0, b"adopted": 0, b"closed": 0}
-        faults = planted.Planted()
+        whole, faults = [], planted.Planted()
         for seed, logs in runs.items():
             with self.subTest(seed=seed):
                 self.assertEqual(len(logs), AGENTS)
@@ -132,11 +131,9 @@ class Browsers(test_record.Case):
                 self.assertEqual(self.verdict(merged), "clean")
                 self.check_report(self.folder / seed, False)
                 faults.check(self, merged, int(seed))
-                for word in total:
-                    total[word] += test_record.words_of(merged, word + b" ")
+                whole.append(merged)
         self.says(len(runs), f"programs in {version[0]}", SEEDS)
-        for word, count in total.items():
-            self.says(count, word.decode(), 5 * SEEDS)
+        self.says_words(whole, 5 * SEEDS)
         faults.says(self, SEEDS // 2)
 
     def check_changes(self, name):

@@ -1,4 +1,4 @@
-"""Tests of tools/edits, clauses, links, rests-on, costs and build that need no toolchain."""
+"""Tests of tools/edits, clauses, links, rests-on, costs, functions and build that need no toolchain."""
 
 import importlib.machinery
 import importlib.util
@@ -188,6 +188,18 @@ class Costs(support.TestCase):
         for text in self.texts(f"({prover}); exit 0", 0):
             self.assertIn(b"\n  lines: 0.0 (proof 0.0, tests 0.0, edits 0.0)\n", text)
         self.says(1, "run")
+
+
+class Functions(support.TestCase):
+    def test_times(self):
+        """A function takes what passes behind the one before it, whatever is said between."""
+        lines = ["checked a, 1 of 3\n", "note: b\n", "checked b, 2 of 3\n",
+                 "checked c::{closure}, 3 of 3\n", "b: proved\n"]
+        clock = iter([0, 4, 6, 7]).__next__
+        found = tool("functions").times_of(lines, clock)
+        self.assertEqual(found, (4, [(2, "b"), (1, "c::{closure}")]))
+        self.assertEqual(tool("functions").times_of([], lambda: 0), (0, []))
+        self.says(2, "outputs")
 
 
 class Build(support.TestCase):

@@ -167,13 +167,6 @@ CALLED = {
     "port": "port", "client": "client queue", "worker": "worker queue",
     "member": "broadcast channel",
 }
-# By step line: how many words stand behind the first one.
-ARITY = {
-    "agent": 1, "channel": 1, "client": 1, "worker": 1, "member": 2, "line": 2, "back": 1,
-    "enter": 1, "push": 3, "leave": 1, "hop": 1, "post": 3, "start": 1, "loaded": 1, "take": 1,
-    "look": 1, "hand": 2, "adopt": 2, "close": 1, "sweep": 1, "cast": 3, "part": 1,
-    "order": 1, "see": 1, "event": 2,
-}
 
 
 class Machine:
@@ -202,7 +195,8 @@ class Machine:
         self.happened, self.why = [], None
         self.has_memory = not text.startswith("!")
         text = text.removeprefix("!")
-        word, *rest = text.split(" ", ARITY[text.partition(" ")[0]])
+        # A name and a body are the rest of the line, behind one word or two.
+        word, *rest = text.split(" ", 2 if text.startswith("member ") else 3)
         try:
             return getattr(self, "do_" + word)(*rest)
         except Refused as refused:

@@ -166,14 +166,19 @@ def add_paths(parser):
                         help="the logs; standard input where none is named")
 
 
-def of_command(parser, names):
-    """The recording that the words of a command name. It ends where nothing is recorded."""
+def read_for(parser, names, is_recorded=False):
+    """The recording that the words of a command name. It ends where that can't be read."""
     try:
-        recording = read(names)
+        return read(names, is_recorded)
     except OSError as error:
         parser.error(str(error))
     except Refused as refused:
         parser.refuse(refused)
+
+
+def of_command(parser, names):
+    """The same. It ends where nothing is recorded, too."""
+    recording = read_for(parser, names)
     if recording.is_empty():
         read_from = " ".join(names) or STANDARD_INPUT
         parser.refuse("\n  ".join([f"nothing is recorded: {read_from}", *recording.missing]))

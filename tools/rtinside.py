@@ -1,12 +1,15 @@
-"""What tools/build asks of the toolchain's own module `rtlib`, which no command of `rt` offers.
+"""What tools/build and tools/functions ask of the toolchain's own module `rtlib`, which no command
+of `rt` offers.
 
   rtinside.py BIN sums FOLDER     the sum that rt has for the sources of each crate below a folder
   rtinside.py BIN prove JOBS      proves the crate of the working folder as `rt ci` does
+  rtinside.py BIN words JOBS      the words by which `rattle check` checks that crate, one a line
 
-`rt ci` leaves libraries without the sums by which `rt lib` takes them, and `rt lib` can't prove
-into a library that holds statements and no proofs, which the crates above read in a third of the
-time. No other file of this repository knows such names: where a toolchain has others this ends
-with 75, and tools/build does without. BIN is the folder of the toolchain's commands.
+`rt ci` leaves libraries without the sums by which `rt lib` takes them, `rt lib` can't prove into a
+library that holds statements and no proofs, which the crates above read in a third of the time, and
+`rt check` always goes on from what it kept. No other file of this repository knows such names:
+where a toolchain has others this ends with 75, and tools/build does without. BIN is the folder of
+the toolchain's commands.
 """
 
 import os
@@ -22,10 +25,20 @@ def tell_sums(rtlib, folder):
     return 0
 
 
+def crate_here(rtlib):
+    here = os.getcwd()
+    return rtlib.Crate(here, rtlib.root_above(here) or here, {})
+
+
+def tell_words(rtlib, jobs):
+    print(*crate_here(rtlib).words(["--jobs", jobs, "--progress"]), sep="\n")
+    return 0
+
+
 def prove(rtlib, jobs):
-    crate_class, here = rtlib.Crate, os.getcwd()
+    crate_class = rtlib.Crate
     crate_class.cuts_libraries = "--statements" in rtlib.help_of("build")
-    crate = crate_class(here, rtlib.root_above(here) or here, {})
+    crate = crate_here(rtlib)
     stamp, build, file = crate.stamp(), crate.build_rlib, pathlib.Path("out/rlib/stamp")
     rtlib.guarded()
     # The locks are held as long as this lives.
@@ -42,7 +55,8 @@ def main(bin_folder, word, argument):
     sys.path.insert(0, bin_folder)
     try:
         import rtlib
-        return {"sums": tell_sums, "prove": prove}[word](rtlib, argument)
+        calls = {"sums": tell_sums, "prove": prove, "words": tell_words}
+        return calls[word](rtlib, argument)
     except (ImportError, AttributeError):
         return OTHER_TOOLCHAIN
 

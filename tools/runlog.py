@@ -271,16 +271,12 @@ class Parser(command.Parser):
         """The arguments, and the run. Ends the program where it can't be read."""
         words, known = self.parse_args(), None
         script = self.bytes_of(words.script) if words.script is not None else None
+        recording = recordings.read_for(self, words.paths)
+        names = naming.Names(recording.names)
         try:
-            recording = recordings.read(words.paths)
-            names = naming.Names(recording.names)
             if script is not None:
                 names = naming.names_of(script, recording.names)
                 known = verdict.known_of(script)
         except hubscript.BadScript as bad:
             self.error(f"{words.script}: {bad}")
-        except OSError as error:
-            self.error(str(error))
-        except recordings.Refused as refused:
-            self.refuse(refused)
         return words, Run(recording, words, known, names)

@@ -7,7 +7,9 @@ not timed. There is no bound.
 
 from measure import scaled
 
-BUILDS = {"broadcast": ["hub_broadcast", "hub_depot", "hub_envelope", "hub_queue"]}
+BUILDS = {
+    "broadcast": ["hub_broadcast", "hub_depot", "hub_envelope", "hub_queue", "hub_test_parts"],
+}
 POSTS = 1_000_000
 SIZES = [1, 10, 100, 1000]
 

@@ -5,7 +5,7 @@ many takes. Each run is a process of its own, so that each pays for its memory. 
 the best runs.
 """
 
-from measure import rate, ratio
+from measure import rate
 
 BUILDS = {"core": ["hub_core", "hub_envelope"]}
 COUNTS = [250_000, 500_000, 1_000_000, 2_000_000]
@@ -17,8 +17,6 @@ def run(bench):
         jobs = {count: program.job(order, count, told=[count // 4]) for count in COUNTS}
         runs = bench.in_turns(jobs)
         for count in COUNTS:
-            name, seconds = f"{order}, {count:,} steps", runs[count].seconds
-            bench.at_least(10, name, rate(seconds, count / 1e6), "million a second")
-            if count > COUNTS[0]:
-                half = runs[count // 2].seconds
-                bench.at_most(2.3, f"{name}, beside half", ratio(seconds, half), "times")
+            name, whole = f"{order}, {count:,} steps", runs[count]
+            bench.at_least(10, name, rate(whole.seconds, count / 1e6), "million a second")
+            bench.beside_half(2.3, name, whole, runs.get(count // 2))

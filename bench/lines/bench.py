@@ -30,9 +30,7 @@ IDLE = 10_000
 
 def run(bench):
     ports = bench.c_over("varukoni_ports", "lines/lines.c")
-    channels = {"mpsc": bench.rust("lines/reference.rs")}
-    for crate, features in CRATES.items():
-        channels[crate] = bench.rust_over(crate, "lines/reference.rs", features)
+    channels = bench.channels("lines/reference.rs", CRATES)
     for senders in SENDERS:
         for what in ("words", "bytes"):
             jobs = jobs_of(ports, channels, senders, what)

@@ -39,8 +39,7 @@ def report(bench, name, count, check, sort, half):
         bench.shows(f"{name}, {program}", scaled(series.seconds), "s")
         bench.shows(f"{name}, {program}, processor", scaled(series.processor), "s")
     bench.at_most(3, f"{name}, beside sort", ratio(check.seconds, sort.seconds), "times")
-    if half:
-        bench.at_most(2.6, f"{name}, beside half", ratio(check.seconds, half.seconds), "times")
+    bench.beside_half(2.6, name, check, half)
     memory = scaled(check.memory, 1 / count)
     bench.at_most(400, f"{name}, memory", memory, "bytes an entry", on="highest")
 

@@ -16,7 +16,9 @@ much longer Node takes.
 
 from measure import ratio, scaled
 
-BUILDS = {"loop": ["hub_envelope", "hub_life", "hub_loop", "hub_ports", "hub_queue"]}
+BUILDS = {
+    "loop": ["hub_envelope", "hub_life", "hub_loop", "hub_ports", "hub_queue", "hub_test_parts"],
+}
 SIZES = [1, 10, 100, 1_000, 10_000]
 BUSY = [10, 100, 1_000]
 MESSAGES = 200_000

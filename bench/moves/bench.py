@@ -50,9 +50,7 @@ def time_sizes(bench, form, steps_each, jobs):
         name = form.format(size)
         figure = rate(series.seconds, steps_each * size / 1e6)
         bench.at_least(10, name, figure, "million steps a second")
-        if half:
-            beside = ratio(series.seconds, half.seconds)
-            bench.at_most(2.3, f"{name}, beside half", beside, "times")
+        bench.beside_half(2.3, name, series, half)
         half = series
 
 

@@ -24,7 +24,7 @@ The bounds are on the medians.
 
 from measure import ANY, rate, ratio, scaled
 
-BUILDS = {"ports": ["crossbeam_utils", "hub_envelope", "hub_ports", "hub_queue"]}
+BUILDS = {"ports": ["crossbeam_utils", "hub_envelope", "hub_ports", "hub_queue", "hub_test_parts"]}
 BYTES = 7
 MESSAGES = 1_000_000
 TRIPS = 100_000

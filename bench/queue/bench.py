@@ -31,7 +31,7 @@ that the best ones alone say little.
 from measure import ANY, prints, rate, ratio, scaled
 
 BUILDS = {
-    "queue": ["hub_core", "hub_depot", "hub_envelope", "hub_queue"],
+    "queue": ["hub_depot", "hub_envelope", "hub_queue", "hub_test_parts"],
     "queue_alone": ["crossbeam_queue", "crossbeam_utils", "hub_envelope"],
 }
 MESSAGES = 1_000_000
@@ -49,9 +49,7 @@ BOUNDS_OF_FOUR = {**BOUNDS, COUNTED: (0.9, "median")}
 
 def run(bench):
     mailbox, alone = bench.built("queue"), bench.built("queue_alone")
-    channels = {"mpsc": bench.rust("queue/reference.rs")}
-    for crate, features in CRATES.items():
-        channels[crate] = bench.rust_over(crate, "queue/reference.rs", features)
+    channels = bench.channels("queue/reference.rs", CRATES)
     report(bench, "1 to 1", BOUNDS, bench.in_turns({
         **jobs_of(mailbox, channels, alone, posters=1),
         **jobs_of_one(mailbox, bench.node("ports/reference.mjs")),

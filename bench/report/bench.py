@@ -36,8 +36,8 @@ def run(bench):
         bench.at_most(3, f"{count:,} entries, beside judge", ratio(found.seconds, other.seconds),
                       "times")
         bench.shows(f"{count:,} entries, memory", scaled(found.memory, 1 / count), "bytes an entry")
-    half, whole = (runs["report", count].seconds for count in COUNTS)
-    bench.at_most(2.3, "1,000,000 entries, beside half", ratio(whole, half), "times")
+    half, whole = (runs["report", count] for count in COUNTS)
+    bench.beside_half(2.3, "1,000,000 entries", whole, half)
 
 
 def is_right(output):

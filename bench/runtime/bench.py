@@ -7,7 +7,7 @@ Besides, how long it takes until a worker that never ends was terminated. The bo
 runs.
 """
 
-from measure import HERE, Gap, Program, answer_of, found_tool, ratio, scaled
+from measure import HERE, Program, compiled, found_tool, ratio, scaled
 
 MESSAGES, TRIPS, CHANNELS, TERMINATED = 300_000, 30_000, 20_000, 20
 # What each job counts, what it prints, and how many times as fast as Node it is at least.
@@ -43,11 +43,9 @@ def built(bench):
     compiler = found_tool("g++")
     if compiler.gap:
         return compiler
-    library, target = bench.folder / "varukoni", bench.folder / "varukoni-js"
-    embed = HERE.parent / "embed"
-    for words in ([embed / "build", "--to", library],
-                  [embed / "runtime" / "build", "--library", library, "--to", target]):
-        status, _ = answer_of(words)
-        if status != 0:
-            return Program(gap=Gap(f"{words[0].relative_to(HERE.parent)}: status {status}"))
-    return Program((target,))
+    library, gap = bench.library
+    if gap:
+        return Program(gap=gap)
+    build, target = HERE.parent / "embed" / "runtime" / "build", bench.folder / "varukoni-js"
+    words = ["--library", library, "--to", target]
+    return compiled(Program((build,)), words, target, "embed/runtime/build")

@@ -7,7 +7,7 @@ is installed. The figures are processor time of the whole process, but for the r
 are by the clock. The bounds are on the best runs.
 """
 
-from measure import HERE, Gap, Program, answer_of, ratio, scaled
+from measure import Program, ratio, scaled
 
 NUMBERS, ROUNDS = 1_000_000, 100_000
 SOURCE = "rust_ports/reference.rs"
@@ -42,10 +42,8 @@ def run(bench):
 
 def built(bench, crate):
     """The program over a crate of Debian's and the one of embed/rust-ports."""
-    folder = bench.folder / "varukoni"
-    if not folder.exists():
-        status, _ = answer_of([HERE.parent / "embed" / "build", "--to", folder])
-        if status != 0:
-            return Program(gap=Gap(f"embed/build ended with status {status}"))
+    folder, gap = bench.library
+    if gap:
+        return Program(gap=gap)
     beside = f'varukoni-ports = {{ path = "{folder / "rust-ports"}" }}'
     return bench.rust_over(crate, SOURCE, FEATURES.get(crate, []), beside)

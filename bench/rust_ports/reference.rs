@@ -19,6 +19,11 @@ fn told(begin: Instant, numbers: impl Iterator<Item = u64>) -> Told {
     Told { begin, count, sum }
 }
 
+/// A sender of all numbers, in a thread of its own.
+fn spawn_sender(each: u64, send: impl FnMut(u64) + Send + 'static) {
+    thread::spawn(move || (0..each).for_each(send));
+}
+
 fn number(message: varukoni_ports::Message) -> u64 {
     message.payload.downcast().unwrap()
 }
@@ -28,22 +33,14 @@ fn flood_ports(senders: u64, each: u64) -> Told {
     if senders == 1 {
         let (mut near, mut far) = channel();
         let begin = Instant::now();
-        thread::spawn(move || {
-            for n in 0..each {
-                near.post_message(n, vec![]).unwrap();
-            }
-        });
+        spawn_sender(each, move |n| near.post_message(n, vec![]).unwrap());
         return told(begin, far.map(number));
     }
     let mut queue = WorkerQueue::new();
     let lines: Vec<_> = (0..senders).map(|_| queue.line().unwrap()).collect();
     let begin = Instant::now();
     for mut line in lines {
-        thread::spawn(move || {
-            for n in 0..each {
-                line.post_message(n, vec![]).unwrap();
-            }
-        });
+        spawn_sender(each, move |n| line.post_message(n, vec![]).unwrap());
     }
     told(begin, queue.map(number))
 }
@@ -76,11 +73,7 @@ mod channels {
         let (sender, receiver) = unbounded();
         let begin = Instant::now();
         for sender in vec![sender; senders as usize] {
-            thread::spawn(move || {
-                for n in 0..each {
-                    sender.send(n).unwrap();
-                }
-            });
+            spawn_sender(each, move |n| sender.send(n).unwrap());
         }
         told(begin, receiver.into_iter())
     }

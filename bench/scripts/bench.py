@@ -4,7 +4,7 @@ Two of the lines are the agents. Of the others one half is channels and the othe
 each transfer a port of one, or all of them are posts. The bounds are on the best runs.
 """
 
-from measure import ratio, scaled
+from measure import scaled
 
 BUILDS = {"scripts": ["hub_script"]}
 COUNTS = [1024, 2048, 4096]
@@ -19,8 +19,6 @@ def run(bench):
             count: program.job(shape, count, told=[actions_of(count)]) for count in COUNTS
         })
         for count in COUNTS:
-            name, seconds = f"{shape}, {count:,} lines", runs[count].seconds
-            bench.shows(name, scaled(seconds, 1e6), "us")
-            if count > COUNTS[0]:
-                half = runs[count // 2].seconds
-                bench.at_most(2.3, f"{name}, beside half", ratio(seconds, half), "times")
+            name, whole = f"{shape}, {count:,} lines", runs[count]
+            bench.shows(name, scaled(whole.seconds, 1e6), "us")
+            bench.beside_half(2.3, name, whole, runs.get(count // 2))

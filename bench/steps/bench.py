@@ -25,7 +25,7 @@ def run(bench):
         for count in COUNTS:
             of_count = {program: runs[program, count] for program in programs}
             report(bench, f"{shape_name}, {count:,} lines", count, of_count, half)
-            half = of_count["messagehub"].seconds
+            half = of_count["messagehub"]
 
 
 def jobs_of(folder, programs, shape):
@@ -51,8 +51,7 @@ def report(bench, name, count, runs, half):
     for program in ("Node", "Rust"):
         memory = scaled(runs[program].memory, 1 / count)
         bench.shows(f"{name}, memory of {program}", memory, "bytes a line")
-    if half:
-        bench.at_most(2.3, f"{name}, beside half", ratio(own.seconds, half), "times")
+    bench.beside_half(2.3, name, own, half)
 
 
 def body(number):

@@ -2,6 +2,7 @@
 // usage: node bodies.mjs FOLDER [WORKERS]    (prints the code of each refusal; WORKERS are begun)
 import { MessageChannel } from 'node:worker_threads';
 import { record } from '../../record/hublog.mjs';
+import { show } from './showing.mjs';
 
 const nested = (depth) => (depth === 0 ? [] : [nested(depth - 1)]);
 const cycle = { name: 'cycle' };
@@ -15,18 +16,9 @@ const BODIES = [
   new DataView(new ArrayBuffer(3)), new SharedArrayBuffer(2), new Uint8Array(new ArrayBuffer(9), 2),
 ];
 
-function refusal(act) {
-  try {
-    act();
-    console.log('nothing');
-  } catch (error) {
-    console.log(error.code);
-  }
-}
-
-refusal(() => record());
-refusal(() => record({ agent: 16, sink: () => {} }));
-refusal(() => record({ agent: 0, sink: 'no function' }));
+show(() => record());
+show(() => record({ agent: 16, sink: () => {} }));
+show(() => record({ agent: 0, sink: 'no function' }));
 const [folder, workers = 0] = process.argv.slice(2);
 const hub = record({ folder });
 const { port1, port2 } = new hub.MessageChannel();
@@ -36,7 +28,7 @@ const ports = Array.from({ length: 9 }, () => Object.values(new hub.MessageChann
 port1.postMessage({ first: ports[0], last: ports[16] }, ports.slice(0, 17));
 hub.receiveMessageOnPort(port2);
 const foreign = new MessageChannel().port1;
-refusal(() => port1.postMessage(foreign, [foreign]));
-refusal(() => port1.postMessage(nested(1_001)));
+show(() => port1.postMessage(foreign, [foreign]));
+show(() => port1.postMessage(nested(1_001)));
 for (let count = 0; count < workers; count += 1) new hub.Worker('', { eval: true });
-if (workers) refusal(() => new hub.Worker('', { eval: true }));
+if (workers) show(() => new hub.Worker('', { eval: true }));

@@ -2,6 +2,7 @@
 // are refused by. usage: node plain.mjs FILE
 
 import { Recorder } from '../../record/hublog.mjs';
+import { show } from './showing.mjs';
 
 const ports = [...Array(15).keys(), 65_535];
 
@@ -15,15 +16,6 @@ function write(log) {
   log.gotNotice(2, 0, 0, 1);
   log.adopted(5, 1);
   log.closed(2);
-}
-
-function show(act) {
-  try {
-    act();
-    console.log('nothing');
-  } catch (error) {
-    console.log(error.code ?? error.message);
-  }
 }
 
 function refuse() {

@@ -54,13 +54,18 @@ def swap(logs):
     return True
 
 
-def drop(logs):
-    """A got entry behind which its line has another is missing."""
-    last = {entries[-1][0].at for entries in hublog.got_lists(logs.logs).values()}
-    entry = logs.pick(it for it in logs.got if it.at not in last)
+def removed(logs, entries):
+    """One of these entries is missing."""
+    entry = logs.pick(entries)
     if entry:
         del logs.lines[entry.at - 1]
     return entry
+
+
+def drop(logs):
+    """A got entry behind which its line has another is missing."""
+    last = {entries[-1][0].at for entries in hublog.got_lists(logs.logs).values()}
+    return removed(logs, (it for it in logs.got if it.at not in last))
 
 
 def doubled(logs, entries):
@@ -116,10 +121,7 @@ def move_behind_close(logs):
 def drop_put(logs):
     """What was put of an entry that was got is missing."""
     names = {(it.end, it.line, it.name()) for it in logs.got}
-    entry = logs.pick(it for it in logs.put if (it.end, it.line, it.name()) in names)
-    if entry:
-        del logs.lines[entry.at - 1]
-    return entry
+    return removed(logs, (it for it in logs.put if (it.end, it.line, it.name()) in names))
 
 
 def make_notice(logs):
@@ -202,10 +204,7 @@ def put_twice(logs):
 def lose_last(logs):
     """The last that was got of a line is missing."""
     lasts = [its[-1][0] for its in hublog.got_lists(logs.logs).values()]
-    entry = logs.pick(it for it in lasts if it.content)
-    if entry:
-        del logs.lines[entry.at - 1]
-    return entry
+    return removed(logs, (it for it in lasts if it.content))
 
 
 # By the kind that tools/report has to find.
