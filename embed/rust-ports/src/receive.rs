@@ -1,6 +1,7 @@
 //! How a message is waited for, by a thread or by a task.
 
 use std::future::Future;
+use std::hint;
 use std::pin::Pin;
 use std::task::{Context, Poll, Waker};
 use std::thread;
@@ -10,8 +11,10 @@ use crate::error::{RecvTimeoutError, TryRecvError};
 use crate::sys::{self, Words};
 use crate::wake;
 
-/// How often a thread looks before it parks.
-const LOOKS: usize = 10;
+/// How often a thread looks before it parks. Before each of the first looks it pauses, twice as long
+/// as before the last one, and before the others it lets other threads run.
+const LOOKS: u32 = 10;
+const LOOKS_AFTER_A_PAUSE: u32 = 6;
 
 /// What is taken from, and armed.
 pub(crate) trait Source {
@@ -97,8 +100,12 @@ pub(crate) trait Source {
         most: Option<Duration>,
     ) -> Result<(), TryRecvError> {
         let end = most.and_then(|most| Instant::now().checked_add(most));
-        for _ in 0..LOOKS {
-            thread::yield_now();
+        for look in 0..LOOKS {
+            if look < LOOKS_AFTER_A_PAUSE {
+                (0..1 << look).for_each(|_| hint::spin_loop());
+            } else {
+                thread::yield_now();
+            }
             match self.take(words) {
                 Err(TryRecvError::Empty) => {}
                 taken => return taken,
