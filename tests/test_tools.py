@@ -1,4 +1,4 @@
-"""Tests of tools/edits, clauses, links, rests-on, costs, functions and build, without a toolchain."""
+"""Tests of tools/edits, clauses, links, rests-on, costs, functions and build: no toolchain."""
 
 import importlib.machinery
 import importlib.util
