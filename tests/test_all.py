@@ -48,7 +48,7 @@ class Runner(support.TestCase):
         return [TESTS / "all", "--folder", self.folder / "tests", "--program", "/bin/true", *words]
 
     def run_all(self, *words, **settings):
-        settings = {**os.environ, "VARUKONI_GATE_REPORT": "", **settings}
+        settings = {**os.environ, "VARUKONI_CI_REPORT": "", **settings}
         return outcome_of(self.words(*words), env=settings)
 
     def assert_ends(self, found, status, *last_lines):
@@ -72,13 +72,13 @@ class Runner(support.TestCase):
         self.assertIn(b"SyntaxError", found.output)
         self.says(1, "call")
 
-    def test_report_of_the_gate(self):
+    def test_report_of_ci(self):
         """It comes before the line that says what was left out."""
         self.add(SKIPPED)
-        report = self.write("report", "the gate took 3 minutes\n")
-        found = self.run_all(VARUKONI_GATE_REPORT=str(report))
+        report = self.write("report", "CI took 3 minutes\n")
+        found = self.run_all(VARUKONI_CI_REPORT=str(report))
         self.assert_ends(
-            found, 0, "the gate took 3 minutes", "left out: chromium, which is not here",
+            found, 0, "CI took 3 minutes", "left out: chromium, which is not here",
             "0 passed, 0 failed, 1 skipped",
         )
         self.says(1, "call")

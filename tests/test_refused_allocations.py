@@ -1,7 +1,7 @@
 """Refuses each allocation in turn, until one is reached that isn't made.
 
 It runs the built program on rows, and each test of a crate whose name ends in
-`whichever_allocation_is_refused`, out of the test programs that the gate has built. A library, made
+`whichever_allocation_is_refused`, out of the test programs that CI has built. A library, made
 with cc from refuse.c, refuses the Nth call of malloc and realloc.
 """
 

@@ -179,7 +179,7 @@ class Costs(support.TestCase):
 
     def test_costs(self):
         for text in self.texts("exit 3", 3):
-            self.assertRegex(text, rb"^gate: 0 processor minutes in 0 min; ")
+            self.assertRegex(text, rb"^CI: 0 processor minutes in 0 min; ")
         self.says(1, "run")
 
     def test_shares(self):

@@ -5,6 +5,9 @@ compact text, and of an event it knows only whether it is `not-now`. `happened` 
 step line did, in the words of logs, and `why` the test that failed where it was `not-now`.
 """
 
+# For Python 3.9, where the module lies beside the library's wrapper.
+from __future__ import annotations
+
 import typing
 
 import weburl

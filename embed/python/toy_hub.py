@@ -1,9 +1,9 @@
-"""A small hub of a user's own, as a test bed may have one: channels whose ports can be sent.
+"""A hub under test for model_test.py: for one of your own, write a class with these methods.
 
-It takes a bug by its name, to see that model_test.py finds it.
+This one is the state machine in Python, asked by step lines, with a bug or with none.
 """
 
-import collections
+import varukoni
 
 BUGS = {
     "overtakes": "the fourth message of a queue is put before the others",
@@ -13,86 +13,70 @@ BUGS = {
     "posts_to_closed": "a post at a closed port is accepted",
     "sends_to_itself": "a post that lists its own target is accepted",
 }
-
-
-class Port:
-    def __init__(self):
-        self.peer = None
-        self.waiting = collections.deque()
-        self.is_enabled = False
-        self.is_closed = False
+ACCEPTS = {("posts_to_closed", "closed"), ("sends_to_itself", "doomed")}
 
 
 class ToyHub:
     """Each port has a number, in the order in which they are made."""
 
     def __init__(self, bug=None):
-        self.bug = bug
-        self.ports = []
+        self.bug, self.hub = bug, varukoni.machine()
+        # As many as model_test.py draws from.
+        for _ in range(3):
+            self.ask("agent -")
+
+    def ask(self, line):
+        """The first word of the answer. What waits at the ports that it closed is given up."""
+        word = self.hub.do(line).split()[0]
+        for closed in [it.end for it in self.hub.happened if it.word == "closed"]:
+            self.ask(f"sweep {closed}")
+        return word
 
     def may(self, name, arguments):
         """Whether this hub can be asked that at all."""
         return True
 
     def channel(self, agent):
-        first, second = Port(), Port()
-        first.peer, second.peer = len(self.ports) + 1, len(self.ports)
-        self.ports += [first, second]
+        self.ask(f"channel {agent}")
         return "made"
 
     def start(self, number):
-        port = self.ports[number]
-        if port.is_closed:
-            return "closed"
-        port.is_enabled = True
-        return "started"
+        """`started` or `closed`."""
+        return self.ask(f"start {number}")
 
     def post(self, number, listed, body):
-        target = self.ports[self.ports[number].peer]
-        if self.ports[number].peer in listed and self.bug != "sends_to_itself":
-            for each in listed:
-                self.close(each)
-            return "doomed"
-        if target.is_closed and self.bug != "posts_to_closed":
-            return "closed"
-        if self.bug == "overtakes" and len(target.waiting) == 3:
-            target.waiting.appendleft((listed, body))
-        else:
-            target.waiting.append((listed, body))
-        return "accepted"
+        """`accepted`, `closed`, or `doomed` where its own target is listed."""
+        line = f"post {number} {','.join(map(str, listed)) or '-'} {body}"
+        while (answer := self.ask(line)) == "moving":
+            pass
+        waiting = self.hub.ends[self.hub.ends[number].peer].queues[-1].waiting
+        if (self.bug, answer, len(waiting)) == ("overtakes", "accepted", 4):
+            waiting.insert(0, waiting.pop())
+        return "accepted" if (self.bug, answer) in ACCEPTS else answer
 
     def take(self, number):
-        port = self.ports[number]
-        if port.is_closed:
-            return "closed"
-        if not port.is_enabled:
-            return "disabled"
-        if not port.waiting:
-            return "empty"
-        listed, body = port.waiting.popleft()
-        return listed[::-1] if self.bug == "swaps_ports" else listed, body
+        """The ports and the body of a message, or `closed`, `disabled` or `empty`."""
+        while (answer := self.ask(f"take {number}")) in ("again", "notice"):
+            pass
+        if answer != "got":
+            return answer
+        got = self.hub.happened[0].envelope
+        return list(got.ports[::-1] if self.bug == "swaps_ports" else got.ports), int(got.body)
 
     def adopt(self, number, agent):
-        port = self.ports[number]
-        if port.is_closed:
-            return "closed"
-        if self.bug != "stays_enabled":
-            port.is_enabled = False
+        """`adopted` or `closed`."""
+        port = self.hub.ends[number]
+        was_enabled, answer = port.is_enabled, self.ask(f"adopt {number} {agent}")
+        if self.bug == "stays_enabled":
+            port.is_enabled = was_enabled
         if self.bug == "drops_waiting":
-            port.waiting.clear()
-        return "adopted"
+            for queue in port.queues:
+                queue.waiting.clear()
+        return answer
 
     def close(self, number):
-        """What waits there is given up, and the ports that are named there are closed."""
-        port = self.ports[number]
-        if port.is_closed:
-            return "closed"
-        port.is_closed = True
-        for listed, _ in port.waiting:
-            for each in listed:
-                self.close(each)
-        port.waiting.clear()
-        return "done"
+        """`done` or `closed`."""
+        return self.ask(f"close {number}")
 
     def end(self):
         pass

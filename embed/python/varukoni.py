@@ -9,8 +9,9 @@ is used by one thread at a time, different hubs by several at once: ctypes lets 
 interpreter's lock during a call, so each hub has a lock of its own here. The library is the one
 that VARUKONI_SO names, or `libvarukoni.so` in `lib` or `out/lib` of the folder above.
 
-`why` says which test failed where an outcome is `not-now`, by a state machine in Python, which
-isn't proved. A hub that is opened with `explains=True` takes its lines through that machine too.
+`why` says which test failed where an outcome is `not-now`, by a state machine in Python
+(`machine`), which isn't proved. A hub that is opened with `explains=True` takes its lines through
+that machine too.
 """
 
 import ctypes
@@ -84,7 +85,7 @@ def _loaded():
 _library = _loaded()
 
 
-def _machine():
+def machine():
     """A state machine in Python, whose module lies beside this one, or in the repository."""
     here = pathlib.Path(__file__).resolve().parent
     if not (here / "machine.py").is_file():
@@ -100,7 +101,7 @@ class Hub:
     """The hub after the step lines so far. A call runs one more, which comes without its LF."""
 
     def __init__(self, explains=False):
-        self._machine = _machine() if explains else None
+        self._machine = machine() if explains else None
         self._raw = _Raw(None, False)
         self._hub = ctypes.byref(self._raw)
         self._lock = threading.Lock()
@@ -201,12 +202,12 @@ def why(data):
     status, text = steps(data)
     if status == BAD:
         raise BadLine(text.removesuffix("\n"), None)
-    machine, found = _machine(), []
+    model, found = machine(), []
     lines = _bytes(data).decode().removesuffix("\n").split("\n") if data else []
     for number, line in enumerate(lines, 1):
-        machine.do(line)
-        if machine.why is not None:
-            found.append((number, machine.why))
+        model.do(line)
+        if model.why is not None:
+            found.append((number, model.why))
     return found
 
 
