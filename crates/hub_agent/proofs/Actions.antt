@@ -13,13 +13,14 @@ use Rattle.hub_clients.specs.declared.handed.HandedQueue.TheVariants as handed
 use Rattle.hub_logging.specs.Notes.{Notes, delivered}
 use Rattle.hub_loop.specs.Adopting.{HoldsMore, IsFetched, IsHeldAs, Stored}
 use Rattle.hub_loop.specs.Closing.{ClosesEnd}
-use Rattle.hub_loop.specs.Posting.{PostsFromPort, SendsOverLine}
+use Rattle.hub_loop.specs.declared.posting.Way.{Way}
+use Rattle.hub_loop.specs.Posting.{PostsThrough}
 use Rattle.hub_loop.specs.declared.closed.ClosedEnd.{ClosedEnd}
 use Rattle.hub_loop.specs.declared.handler.Turn.{Turn}
 use Rattle.hub_loop.specs.declared.handler.Turn.TheVariants.{Delivered, Idle, Ending}
 use Rattle.hub_queue.specs.Taking.{TakerSeat}
 use Rattle.hub_loop.specs.Ending.{is_held}
-use Rattle.hub_loop.specs.Holding.{end_held}
+use Rattle.hub_loop.specs.Holding.{at_stand, end_held}
 use Rattle.hub_loop.specs.Starting.{StartsClient, StartsPort}
 use Rattle.hub_loop.specs.declared.held.Held.{Held}
 use Rattle.hub_loop.specs.declared.held.Held.TheVariants as held
@@ -33,8 +34,8 @@ use Rattle.hub_script.specs.declared.action.ActionKind.TheVariants.{Post, Send, 
 use Rattle.hub_trace.specs.Accepted.{AgentLog, message_at}
 use Rattle.hub_trace.specs.declared.log_entry.LogEntry.{LogEntry}
 use Rattle.hub_trace.specs.declared.log_entry.LogEntry.TheVariants.{Put, Got, Adopted, Closed}
-use Rattle.hub_agent.specs.Agents.{AgentState, KeepsButNotes, StartsEnd, StartsQueue}
-use Rattle.hub_agent.specs.Entries.{AreAdoptedOf, AreAdoptions, AreClosings, AreEndings, AreTurns, AreTurnsLogged, IsCastLogged, IsCloseLogged, IsClosing, IsFetchLogged, IsLoggedFor, IsPostLogged, IsTurnLogged, TurnLeaves, Writes, answer_entries, ports_in}
+use Rattle.hub_agent.specs.Agents.{AgentState, KeepsButNotes, StartsEnd, StartsClientQueue}
+use Rattle.hub_agent.specs.Entries.{AreAdoptedOf, AreAdoptions, AreClosings, AreEndings, AreTurnEntries, AreTurnsLogged, IsCastLogged, IsCloseLogged, IsClosing, IsFetchLogged, IsLoggedFor, IsPostLogged, IsTurnLogged, TurnLeaves, WritesEntries, answer_entries, ports_listed}
 use Rattle.hub_agent.specs.Owning.{Accounts, HoldsNoMore, LeavesOwn, TurnBrings, gained, gained_by, has, lost, lost_by, times}
 use Rattle.hub_agent.specs.Posting.{given_back}
 use Rattle.hub_agent.proofs.Brings.{count_held, count_same, held_in}
@@ -116,10 +117,10 @@ turn_loses : (entries : List LogEntry) → IsTurnLogged entries → LosesNone en
 turn_loses entries (inl is) = λ e. ap (lost e) is
 turn_loses entries (inr (d, adoptions, is, adopted)) = λ e.
     let all = ap (lost e) is ∙ lost_cons e (Got d) adoptions in
-    let behind = adopted_loses (ports_in d.content) adoptions adopted e in
+    let behind = adopted_loses (ports_listed d.content) adoptions adopted e in
     omega (arith, all, behind)
 
-each_loses : (turns : List (List LogEntry)) → AreTurns turns → LosesNone (flat_map (λ turn. turn) turns)
+each_loses : (turns : List (List LogEntry)) → AreTurnEntries turns → LosesNone (flat_map (λ turn. turn) turns)
 each_loses [] none = λ e. refl
 each_loses (turn ∷ turns) (first, rest) = λ e.
     let all = lost_both e turn (flat_map (λ t. t) turns) in
@@ -162,7 +163,7 @@ kind_leaves own left entries (inl none) total = only_lost own left entries none 
 kind_leaves own left entries (inr none) total = only_gained own left entries none total
 
 -- the account by what was written
-pub written_account : (before now : AgentState) (entries : List LogEntry) → Writes entries before.notes now.notes → Accounts before now → before.kept ≡ None
+pub written_account : (before now : AgentState) (entries : List LogEntry) → WritesEntries entries before.notes now.notes → Accounts before now → before.kept ≡ None
     → (now.kept ≡ None) × ((e : ℕ) → has now e + lost e entries ≤ has before e + gained e entries)
 written_account before now entries written accounts none =
     let (kept, total) = accounts none in (
@@ -174,7 +175,7 @@ written_account before now entries written accounts none =
           omega (arith, all, l, g),
     )
 
-pub accounts_by : (before now : AgentState) (entries : List LogEntry) → Writes entries before.notes now.notes → (before.kept ≡ None → now.kept ≡ None)
+pub accounts_by : (before now : AgentState) (entries : List LogEntry) → WritesEntries entries before.notes now.notes → (before.kept ≡ None → now.kept ≡ None)
     → ((e : ℕ) → has now e + lost e entries ≤ has before e + gained e entries) → Accounts before now
 accounts_by before now entries written kept total none = (
   kept none,
@@ -210,7 +211,7 @@ accounts_kept before mid now notes kept ends first =
     accounts_both before mid now first (accounts_same mid now notes kept (λ e. let h = ap (λ s. held_in s e) ends in omega (arith, h)))
 
 -- an action that was done leaves the agent its own
-pub acts_own : (action : ActionKind) (before now : AgentState) (entries : List LogEntry) → IsLoggedFor action entries → Writes entries before.notes now.notes → Accounts before now
+pub acts_own : (action : ActionKind) (before now : AgentState) (entries : List LogEntry) → IsLoggedFor action entries → WritesEntries entries before.notes now.notes → Accounts before now
     → before.kept ≡ None → (now.kept ≡ None) × LeavesOwn (has before) entries (has now)
 acts_own action before now entries logged written accounts none =
     let (kept, total) = written_account before now entries written accounts none in
@@ -278,7 +279,7 @@ start_accounts end before now (keeps, inr (none, (was, started))) =
     accounts_same before now (ap (λ (a : AgentState). a.notes) keeps) (ap (λ (a : AgentState). a.kept) keeps)
     (λ e. let h = client_started e before.ends now.ends end was started in omega (arith, h))
 
-pub load_accounts : (queue : EndId) (before now : AgentState) → StartsQueue queue before now → Accounts before now
+pub load_accounts : (queue : EndId) (before now : AgentState) → StartsClientQueue queue before now → Accounts before now
 load_accounts queue before now (keeps, (was, started)) =
     accounts_same before now (ap (λ (a : AgentState). a.notes) keeps) (ap (λ (a : AgentState). a.kept) keeps)
     (λ e. let h = client_started e before.ends now.ends queue was started in omega (arith, h))
@@ -305,16 +306,21 @@ is_seat_end (held.Port p) n = ⊥
 is_seat_end (held.Member m) n = ⊥
 is_seat_end (held.Line l) n = ⊥
 
--- a post leaves the ends that are held
-pub posted_same : (agent : AgentId) (body : List ℕ) (ports : List PortSeat) (old new : Slab Held) (end : EndId) (answer : Result Posted PortError) → PostsFromPort agent body ports old new end answer → (e : ℕ) → held_in new e ≡ held_in old e
-posted_same agent body ports old new end answer (key, port, stand, at, is, sent, now) e = ap (λ s. held_in s e) now ∙ held_again e old key (held.Port port) _ at refl
+-- where a line stands is no part of the ends that are held
+stand_same : (e : ℕ) (h : Held) (stand : StandSeat) → is_held e (Some (at_stand h stand)) ≡ is_held e (Some h)
+stand_same e (held.Port p) stand = refl
+stand_same e (held.Client t) stand = refl
+stand_same e (held.Worker t) stand = refl
+stand_same e (held.Member m) stand = refl
+stand_same e (held.Line l) stand = refl
 
-pub sent_same : (agent : AgentId) (body : List ℕ) (ports : List PortSeat) (old new : Slab Held) (end : EndId) (answer : Result Posted PortError) → SendsOverLine agent body ports old new end answer → (e : ℕ) → held_in new e ≡ held_in old e
-sent_same agent body ports old new end answer (key, line, stand, at, is, sent, now) e = ap (λ s. held_in s e) now ∙ held_again e old key (held.Line line) _ at refl
+-- a post leaves the ends that are held
+pub sent_same : (w : Way) (agent : AgentId) (body : List ℕ) (ports : List PortSeat) (old new : Slab Held) (answer : Result Posted PortError) → PostsThrough agent body ports w old new answer → (e : ℕ) → held_in new e ≡ held_in old e
+sent_same w agent body ports old new answer (key, h, line, stand, at, goes, is, sent, now) e = ap (λ s. held_in s e) now ∙ held_again e old key h _ at (stand_same e h stand)
 
 -- A delivery and the adoptions that were logged.
 pub delivered_accounts : (before told now : AgentState) → TurnLeaves Delivered before.notes told.notes → TurnBrings Delivered before told
-    → ((entries : List LogEntry) × AreAdoptions told.notes.adopted entries × Writes entries told.notes now.notes) → KeepsButNotes told now → Accounts before now
+    → ((entries : List LogEntry) × AreAdoptions told.notes.adopted entries × WritesEntries entries told.notes now.notes) → KeepsButNotes told now → Accounts before now
 delivered_accounts before told now (v, missing, is) brings (entries, adopted, written) keeps none =
     let (kept, came) = brings none in (
       ap (λ (a : AgentState). a.kept) keeps ∙ kept,
@@ -360,7 +366,7 @@ no_queue_held e old new end (inl same) = count_same e old.held new.held same.0
 no_queue_held e old new end (inr (q, is, (error, unfit, refused, same, buried))) = count_same e old.held new.held same
 
 pub fetched_accounts : (before now : AgentState) (old mid : Stored) (end : EndId) (started : Bool) → before.ends ≡ old.held → IsFetched true old mid end → StartsClient mid.held now.ends end started
-    → ((epoch : ℕ) × Writes (Adopted end epoch ∷ []) before.notes now.notes) → now.kept ≡ before.kept → Accounts before now
+    → ((epoch : ℕ) × WritesEntries (Adopted end epoch ∷ []) before.notes now.notes) → now.kept ≡ before.kept → Accounts before now
 fetched_accounts before now old mid end started same came starts (epoch, written) kept =
     accounts_by before now (Adopted end epoch ∷ []) written (λ none. kept ∙ none) (λ e.
     let a = ap (λ s. held_in s e) same in
@@ -380,7 +386,7 @@ not_fetched_accounts before now old new end same came is notes kept =
 
 -- an end that was closed
 pub closed_accounts : {X E : Type 0} (result : Result X E) (before now : AgentState) {was is : Option (List SubscriptionSeat)} (old : Slab Held) (end : EndId) (closed : ClosedEnd) (entries : List LogEntry) → IsClosing end entries → old ≡ before.ends → ClosesEnd old now.ends was is end closed
-    → OnOk result (Writes entries before.notes now.notes) → now.kept ≡ before.kept → OnOk result (Accounts before now)
+    → OnOk result (WritesEntries entries before.notes now.notes) → now.kept ≡ before.kept → OnOk result (Accounts before now)
 closed_accounts (Ok x) before now old end closed entries closing same (h, is, more, done, left) written kept =
     accounts_by before now entries written (λ none. kept ∙ none) (λ e.
     let a = ap (λ s. held_in s e) same in
@@ -390,7 +396,7 @@ closed_accounts (Ok x) before now old end closed entries closing same (h, is, mo
     omega (arith, a, b, g, l))
 closed_accounts (Err x) before now old end closed entries closing same closes written kept = tt
 
-pub cast_accounts : {X E : Type 0} (result : Result X E) (before now : AgentState) (member : EndId) (body : List ℕ) → OnOk result ((entries : List LogEntry) × IsCastLogged member body entries × Writes entries before.notes now.notes)
+pub cast_accounts : {X E : Type 0} (result : Result X E) (before now : AgentState) (member : EndId) (body : List ℕ) → OnOk result ((entries : List LogEntry) × IsCastLogged member body entries × WritesEntries entries before.notes now.notes)
     → now.ends ≡ before.ends → now.kept ≡ before.kept → OnOk result (Accounts before now)
 cast_accounts (Ok x) before now member body (entries, logged, written) ends kept =
     let (gains, loses) = cast_none member body entries logged in

@@ -12,10 +12,10 @@ use Rattle.hub_loop.specs.Ending.{is_held}
 use Rattle.hub_loop.specs.Holding.{seat_of, with_seat}
 use Rattle.hub_loop.specs.Serving.{AskedAll, HasGiven, IsSlotAsked, IsTakenAtKey}
 use Rattle.hub_loop.specs.States.{DeliveryState, HoldingState, ReceivingState}
-use Rattle.hub_loop.specs.Turning.{IsTurn}
+use Rattle.hub_loop.specs.Turning.{IsDue, IsTurn, TurnState}
 use Rattle.hub_loop.specs.declared.held.Held.{Held}
 use Rattle.hub_loop.specs.declared.held.Held.TheVariants.{Port, Client, Worker, Member, Line}
-use Rattle.hub_loop.specs.declared.loop_error.LoopError.{LoopError}
+use Rattle.hub_loop.specs.declared.error.LoopError.{LoopError}
 use Rattle.hub_loop.specs.declared.handler.Turn.{Turn}
 use Rattle.hub_loop.specs.declared.handler.Turn.TheVariants.{Delivered, Idle, Ending}
 use Rattle.hub_ports.specs.Seats.{PortSeat, end_of, ends_of}
@@ -136,14 +136,17 @@ Brought Delivered old new left = (e : ℕ) → held_in new.held e ≤ held_in ol
 Brought (Idle busy) old new left = (e : ℕ) → held_in new.held e ≤ held_in old.held e
 Brought Ending old new left = (e : ℕ) → held_in new.held e ≤ held_in old.held e
 
-brought_none : (old new : HoldingState) (looks : _) (keeps : Option DeliveryState) (h left : Notes) (before after : Count) (turn : Turn) → IsTurn {E = LoopError} leaves refuses old new looks None keeps h left before after (Ok turn) → (keeps ≡ None) × Brought turn old new left
-brought_none old new looks keeps h left before after Ending t = (t.1, λ e. let same = ap (λ (s : HoldingState). held_in s.held e) t.0 in omega (arith, same))
-brought_none old new looks keeps h left before after (Idle busy) t =
-    (t.1, λ e. let same = all_count e t.0.0.0 old.held new.held before after busy t.0.0.1 in omega (arith, same))
-brought_none old new looks keeps h left before after Delivered (d, f, middle, (key, v, is, served, due, mark, same), (r, missing, looked, adopted, said), none, next) = (
+brought_none : (given left : TurnState Notes) (looks : _) (turn : Turn) → given.kept ≡ None → IsTurn {E = LoopError} leaves refuses given left looks (Ok turn) → (left.kept ≡ None) × Brought turn given.holding left.holding left.handler
+brought_none given left looks Ending first t =
+    (ap (λ (s : TurnState Notes). s.kept) t.0 ∙ first, λ e. let same = ap (λ (s : TurnState Notes). held_in s.holding.held e) t.0 in omega (arith, same))
+brought_none given left looks (Idle busy) first t =
+    let due = subst (λ k. IsDue k given.holding left.holding looks given.pops left.pops (Err busy)) first t.0 in
+    (t.1, λ e. let same = all_count e due.0.0 given.holding.held left.holding.held given.pops left.pops busy due.0.1 in omega (arith, same))
+brought_none given left looks Delivered first (d, f, middle, taken_up, (r, missing, looked, adopted, said), none, next) = (
   none,
   λ e.
-      let taken = given_count e key v served.0 old.held middle.held before after served.1 in
+      let (key, v, is, served, due, mark, same) = subst (λ k. IsDue k given.holding middle looks given.pops left.pops (Ok d)) first taken_up in
+      let taken = given_count e key v served.0 given.holding.held middle.held given.pops left.pops served.1 in
       let parts = subst (λ (a : Option ReceivingState). IsLookedForIn a d.envelope r) (ap (λ (x : DeliveryState). x.arrival) is) looked in
       let split = split_times e d.envelope.ports (ends_of r.found) r.missing parts in
       let all = all_adopted e r.found _ _ r.missing missing adopted in
@@ -178,14 +181,9 @@ brought Ending old new keeps left was now gives held_was held_now kept_now notes
     let (gone, came) = gives none in
     (kept_now ∙ gone, λ e. no_more e old new was now held_was held_now (came e))
 
-brings_as : (old new : HoldingState) (looks : _) (kept keeps : Option DeliveryState) (h left : Notes) (before after : Count) (turn : Turn) (was now : AgentState)
-    → IsTurn {E = LoopError} leaves refuses old new looks kept keeps h left before after (Ok turn) → was.ends ≡ old.held → was.kept ≡ kept → now.ends ≡ new.held → now.kept ≡ keeps → now.notes ≡ left → TurnBrings turn was now
-brings_as old new looks kept keeps h left before after turn was now t held_was kept_was held_now kept_now notes =
-    let gives = λ (none : was.kept ≡ None). brought_none old new looks keeps h left before after turn (subst (λ k. IsTurn {E = LoopError} leaves refuses old new looks k keeps h left before after (Ok turn)) (sym kept_was ∙ none) t) in
-    brought turn old new keeps left was now gives held_was held_now kept_now notes
-
 -- what a turn brings, where it is no error
-pub turn_brings : (old new : HoldingState) (looks : _) (kept keeps : Option DeliveryState) (h left : Notes) (before after : Count) (result : Result Turn LoopError) (was now : AgentState)
-    → IsTurn leaves refuses old new looks kept keeps h left before after result → was.ends ≡ old.held → was.kept ≡ kept → now.ends ≡ new.held → now.kept ≡ keeps → now.notes ≡ left → IfOk result (λ turn. TurnBrings turn was now)
-turn_brings old new looks kept keeps h left before after (Ok turn) was now t held_was kept_was held_now kept_now notes = brings_as old new looks kept keeps h left before after turn was now t held_was kept_was held_now kept_now notes
-turn_brings old new looks kept keeps h left before after (Err error) was now t held_was kept_was held_now kept_now notes = tt
+pub turn_brings : (given left : TurnState Notes) (looks : _) (result : Result Turn LoopError) (was now : AgentState)
+    → IsTurn leaves refuses given left looks result → was.ends ≡ given.holding.held → was.kept ≡ given.kept → now.ends ≡ left.holding.held → now.kept ≡ left.kept → now.notes ≡ left.handler → IfOk result (λ turn. TurnBrings turn was now)
+turn_brings given left looks (Ok turn) was now t held_was kept_was held_now kept_now notes =
+    brought turn given.holding left.holding left.kept left.handler was now (λ (none : was.kept ≡ None). brought_none given left looks turn (sym kept_was ∙ none) t) held_was held_now kept_now notes
+turn_brings given left looks (Err error) was now t held_was kept_was held_now kept_now notes = tt

@@ -17,7 +17,7 @@ use Rattle.hub_loop.specs.Holding.{end_held, ends_held}
 use Rattle.hub_loop.specs.declared.held.Held.{Held}
 use Rattle.hub_loop.specs.declared.held.Held.TheVariants as held
 use Rattle.hub_trace.specs.Accepted.{AgentLog}
-use Rattle.hub_agent.specs.Entries.{Writes, ending_entries}
+use Rattle.hub_agent.specs.Entries.{WritesEntries, ending_entries}
 use Rattle.hub_agent.specs.Owning.{lost, times}
 use Rattle.hub_agent.proofs.Brings.{held_in}
 use Rattle.hub_agent.proofs.Listed.{times_cons, times_one}
@@ -77,7 +77,7 @@ ending_loses e end (Some posted) false = refl
 abbrev pub Closes : Notes → Notes → List EndId → List EndId → Type 0
 Closes before now left ends = (e : ℕ) → lost e now.log.1 + times e left ≤ lost e before.log.1 + times e ends
 
-closes_step : (before now after : Notes) (old new ends : List EndId) (end : EndId) (notice : Option Posted) (is_held : Bool) → Closes before now old ends → Writes (ending_entries end notice is_held) now after
+closes_step : (before now after : Notes) (old new ends : List EndId) (end : EndId) (notice : Option Posted) (is_held : Bool) → Closes before now old ends → WritesEntries (ending_entries end notice is_held) now after
     → ((e : ℕ) → times e old ≡ times e new + cond is_held (times e (end ∷ [])) 0) → Closes before after new ends
 closes_step before now after old new ends end notice is_held closes written less e =
     let a = closes e in
@@ -90,13 +90,13 @@ left_step : (e : ℕ) (end : EndId) (test : EndId → Bool) (old : List EndId) (
 left_step e end test old true is any = removed e end test old is any
 left_step e end test old false is any = let same = ap (times e) (not_removed test old any) in omega (arith, same)
 
-pub closes_more : (before now after : Notes) (old new ends : List EndId) (end : EndId) (notice : Option Posted) (is_held : Bool) (test : EndId → Bool) → Closes before now old ends → Writes (ending_entries end notice is_held) now after
+pub closes_more : (before now after : Notes) (old new ends : List EndId) (end : EndId) (notice : Option Posted) (is_held : Bool) (test : EndId → Bool) → Closes before now old ends → WritesEntries (ending_entries end notice is_held) now after
     → is_held ≡ list_any test old → new ≡ remove_key test old → ((x : EndId) → test x ≡ true → x.0 ≡ end.0) → Closes before after new ends
 closes_more before now after old new ends end notice is_held test closes written any less is =
     closes_step before now after old new ends end notice is_held closes written (λ e. left_step e end test old is_held is (sym any) ∙ ap (λ (xs : List EndId). times e xs + cond is_held (times e (end ∷ [])) 0) (sym less))
 
 -- a notice closes nothing
-pub closes_notice : (before now after : Notes) (left ends : List EndId) (posted : Posted) → Closes before now left ends → Writes (ending_entries (record { 0 = 0 }) (Some posted) false) now after → Closes before after left ends
+pub closes_notice : (before now after : Notes) (left ends : List EndId) (posted : Posted) → Closes before now left ends → WritesEntries (ending_entries (record { 0 = 0 }) (Some posted) false) now after → Closes before after left ends
 closes_notice before now after left ends posted closes written =
     closes_step before now after left left ends (record { 0 = 0 }) (Some posted) false closes written (λ e. omega arith)
 

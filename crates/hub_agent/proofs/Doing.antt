@@ -2,9 +2,9 @@
 use Rattle.std.proofs.Common.{◌≡◌, [], Result, Ok, Err, OnOk, ap, refl, inl, inr, arith}
 use Rattle.hub_envelope.specs.declared.ids.AgentId.{AgentId}
 use Rattle.hub_envelope.specs.declared.ids.EndId.{EndId}
-use Rattle.hub_life.specs.declared.event.Event.{Event as LifeEvent}
+use Rattle.hub_life.specs.declared.life.Event.{Event as LifeEvent}
 use Rattle.hub_script.specs.declared.action.ActionKind.TheVariants.{Start, Loaded, Order, Event, Hand}
-use Rattle.hub_agent.specs.Agents.{AgentState, Changes, StartsEnd, StartsQueue}
+use Rattle.hub_agent.specs.Agents.{AgentState, Changes, StartsEnd, StartsClientQueue}
 use Rattle.hub_agent.specs.Owning.{Accounts, HoldsNoMore}
 use Rattle.hub_agent.specs.Acting.{Acts}
 use Rattle.hub_agent.proofs.Actions.{accounts_same, load_accounts, start_accounts}
@@ -23,7 +23,7 @@ acts_while A C D (Err e) a c d = tt
 pub started_acts : (end : EndId) (before now : AgentState) → StartsEnd end before now → Acts (Start end) before now
 started_acts end before now starts = (([], refl, writes_same before.notes now.notes (ap (λ (a : AgentState). a.notes) starts.0)), starts, start_accounts end before now starts)
 
-pub loaded_acts : (queue : EndId) (before now : AgentState) → StartsQueue queue before now → Acts (Loaded queue) before now
+pub loaded_acts : (queue : EndId) (before now : AgentState) → StartsClientQueue queue before now → Acts (Loaded queue) before now
 loaded_acts queue before now starts = (([], refl, writes_same before.notes now.notes (ap (λ (a : AgentState). a.notes) starts.0)), starts, load_accounts queue before now starts)
 
 -- an action that leaves the notes and what is held

@@ -2,7 +2,7 @@
 use Rattle.std.proofs.Common.{◌≡◌, ◌∙◌, ◌≤◌, ℕ, ◌+◌, ◌==◌, ◌||◌, Bool, true, false, not, cond, List, [], ◌∷◌, ap, sym, refl, subst, inl, inr, arith, rules}
 use Rattle.std.specs.List.{count_by, list_any}
 use Rattle.hub_envelope.specs.declared.ids.EndId.{EndId}
-use Rattle.hub_trace.specs.PortList.{are_distinct, has_end, is_port_list}
+use Rattle.hub_trace.specs.PortList.{are_distinct, lists_end, is_port_list}
 use Rattle.hub_logging.specs.Notes.{not_missing}
 use Rattle.hub_ports.specs.Splitting.{IsSplit}
 use Rattle.hub_agent.specs.Owning.{times}
@@ -32,18 +32,18 @@ any_some p [] is = absurd cc
 any_some p (x ∷ xs) is = subst (λ n. 1 ≤ n) (sym (count_cons p x xs)) (some_step (p x) (count_by p xs) (list_any p xs) (any_some p xs) is)
 
 -- in a list of different ends each stands once
-once_step : (x : EndId) (e : ℕ) (xs : List EndId) (b : Bool) → (x.0 == e) ≡ b → not (has_end xs x.0) ≡ true → times e xs ≤ 1 → cond b 1 0 + times e xs ≤ 1
+once_step : (x : EndId) (e : ℕ) (xs : List EndId) (b : Bool) → (x.0 == e) ≡ b → not (lists_end xs x.0) ≡ true → times e xs ≤ 1 → cond b 1 0 + times e xs ≤ 1
 once_step x e xs false is new rest = omega (arith, rest)
 once_step x e xs true is new rest =
     let same : x.0 ≡ e = search rules in
-    let none : has_end xs x.0 ≡ false = search rules in
-    let gone = any_none (λ (end : EndId). end.0 == e) xs (subst (λ n. has_end xs n ≡ false) same none) in
+    let none : lists_end xs x.0 ≡ false = search rules in
+    let gone = any_none (λ (end : EndId). end.0 == e) xs (subst (λ n. lists_end xs n ≡ false) same none) in
     omega (arith, gone)
 
 distinct_once : (e : ℕ) (xs : List EndId) → are_distinct xs ≡ true → times e xs ≤ 1
 distinct_once e [] is = omega arith
 distinct_once e (x ∷ xs) is =
-    let new : not (has_end xs x.0) ≡ true = search rules in
+    let new : not (lists_end xs x.0) ≡ true = search rules in
     let rest : are_distinct xs ≡ true = search rules in
     subst (λ n. n ≤ 1) (sym (times_cons e x xs)) (once_step x e xs (x.0 == e) refl new (distinct_once e xs rest))
 
@@ -53,28 +53,28 @@ listed_once e xs is =
     distinct_once e xs distinct
 
 -- those that aren't missing
-kept_step : (missing : List EndId) (x : EndId) (e : ℕ) (rest : List EndId) (is_end kept : Bool) → (x.0 == e) ≡ is_end → not (has_end missing x.0) ≡ kept → has_end missing e ≡ false
+kept_step : (missing : List EndId) (x : EndId) (e : ℕ) (rest : List EndId) (is_end kept : Bool) → (x.0 == e) ≡ is_end → not (lists_end missing x.0) ≡ kept → lists_end missing e ≡ false
     → times e (cond kept (x ∷ rest) rest) ≡ cond is_end 1 0 + times e rest
 kept_step missing x e rest b true is found none = times_cons e x rest ∙ ap (λ c. cond {A = ℕ} c 1 0 + times e rest) is
 kept_step missing x e rest false false is found none = omega arith
 kept_step missing x e rest true false is found none =
     let same : x.0 ≡ e = search rules in
-    let here : has_end missing e ≡ true = subst (λ n. has_end missing n ≡ true) same (search rules) in
+    let here : lists_end missing e ≡ true = subst (λ n. lists_end missing n ≡ true) same (search rules) in
     absurd cc
 
-not_missing_times : (e : ℕ) (missing ports : List EndId) → has_end missing e ≡ false → times e (not_missing missing ports) ≡ times e ports
+not_missing_times : (e : ℕ) (missing ports : List EndId) → lists_end missing e ≡ false → times e (not_missing missing ports) ≡ times e ports
 not_missing_times e missing [] none = refl
 not_missing_times e missing (x ∷ ports) none =
-    kept_step missing x e (not_missing missing ports) (x.0 == e) (not (has_end missing x.0)) refl refl none
+    kept_step missing x e (not_missing missing ports) (x.0 == e) (not (lists_end missing x.0)) refl refl none
     ∙ ap (λ n. cond {A = ℕ} (x.0 == e) 1 0 + n) (not_missing_times e missing ports none) ∙ sym (times_cons e x ports)
 
-found_step : (e : ℕ) (missing ports : List EndId) (b : Bool) → has_end missing e ≡ b → times e ports ≤ 1 → times e ports ≤ times e (not_missing missing ports) + times e missing
+found_step : (e : ℕ) (missing ports : List EndId) (b : Bool) → lists_end missing e ≡ b → times e ports ≤ 1 → times e ports ≤ times e (not_missing missing ports) + times e missing
 found_step e missing ports true is once = let some = any_some (λ (end : EndId). end.0 == e) missing is in omega (arith, some, once)
 found_step e missing ports false is once = let same = not_missing_times e missing ports is in omega (arith, same)
 
 -- where each port of a list stands once, one that isn't missing was found
 pub found_times : (e : ℕ) (missing ports : List EndId) → times e ports ≤ 1 → times e ports ≤ times e (not_missing missing ports) + times e missing
-found_times e missing ports once = found_step e missing ports (has_end missing e) refl once
+found_times e missing ports once = found_step e missing ports (lists_end missing e) refl once
 
 -- both parts together are the list
 pub split_times : (e : ℕ) (ports found missing : List EndId) → IsSplit ports found missing → times e ports ≡ times e found + times e missing

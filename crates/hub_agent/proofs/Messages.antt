@@ -10,7 +10,7 @@ use Rattle.hub_script.specs.declared.action.ActionKind.TheVariants.{Post, Send, 
 use Rattle.hub_trace.specs.Accepted.{message_at}
 use Rattle.hub_trace.specs.declared.log_entry.LogEntry.{LogEntry}
 use Rattle.hub_trace.specs.declared.log_entry.LogEntry.TheVariants.{Put, Got, Adopted, Closed}
-use Rattle.hub_agent.specs.Entries.{AreAdoptedOf, AreClosings, AreEndings, AreLoggedFor, AreTurns, AreTurnsLogged, IsCloseLogged, IsClosing, IsFetchLogged, IsLoggedFor, IsPostLogged, IsTurnLogged, ports_in}
+use Rattle.hub_agent.specs.Entries.{AreAdoptedOf, AreClosings, AreEndings, AreLoggedFor, AreTurnEntries, AreTurnsLogged, IsCloseLogged, IsClosing, IsFetchLogged, IsLoggedFor, IsPostLogged, IsTurnLogged, ports_listed}
 use Rattle.hub_agent.specs.Posts.{Message, message_in, message_put, messages_put}
 use Rattle.hub_agent.specs.Acting.{ArePutFor, AreEntriesFor, IsNoneOr, IsPutFor}
 
@@ -59,9 +59,9 @@ adopted_silent (end ∷ ends) entries (inr (epoch, rest, is, adopted)) =
 turn_silent : (entries : List LogEntry) → IsTurnLogged entries → Silent entries
 turn_silent entries (inl none) = ap messages_put none
 turn_silent entries (inr (d, adoptions, is, adopted)) =
-    silent_as entries (Got d ∷ adoptions) is (adopted_silent (ports_in d.content) adoptions adopted)
+    silent_as entries (Got d ∷ adoptions) is (adopted_silent (ports_listed d.content) adoptions adopted)
 
-each_silent : (turns : List (List LogEntry)) → AreTurns turns → Silent (flat_map (λ turn. turn) turns)
+each_silent : (turns : List (List LogEntry)) → AreTurnEntries turns → Silent (flat_map (λ turn. turn) turns)
 each_silent [] none = refl
 each_silent (turn ∷ turns) (first, rest) =
     silent_both _ turn (flat_map (λ t. t) turns) refl (turn_silent turn first) (each_silent turns rest)

@@ -10,9 +10,12 @@ use Rattle.hub_logging.specs.Notes.{Notes}
 use Rattle.hub_loop.specs.Adopting.{HoldsMore}
 use Rattle.hub_loop.specs.Ending.{is_held}
 use Rattle.hub_loop.specs.Holding.{end_held}
-use Rattle.hub_loop.specs.Looking.{HoldsNoEnd, HoldsNoLine}
+use Rattle.hub_loop.specs.Looking.{HoldsNoEnd, HoldsNoLine, LacksWay}
+use Rattle.hub_loop.specs.Posting.{PostsThrough}
 use Rattle.hub_loop.specs.declared.held.Held.{Held}
 use Rattle.hub_loop.specs.declared.held.Held.TheVariants as held
+use Rattle.hub_loop.specs.declared.posting.Way.{Way}
+use Rattle.hub_loop.specs.declared.posting.Way.TheVariants as way
 use Rattle.hub_ports.specs.Seats.{PortSeat, end_of, ends_of}
 use Rattle.hub_ports.specs.declared.error.PortError.{PortError}
 use Rattle.hub_ports.specs.Sending.{IsSent}
@@ -20,13 +23,11 @@ use Rattle.hub_queue.specs.Standing.{StandSeat}
 use Rattle.hub_script.specs.declared.action.ActionKind.TheVariants.{Post, Send}
 use Rattle.hub_trace.specs.declared.log_entry.LogEntry.{LogEntry}
 use Rattle.hub_agent.specs.Agents.{AgentState, KeepsElse}
-use Rattle.hub_agent.specs.Entries.{IsPostLogged, Writes, answer_entries, log_and}
+use Rattle.hub_agent.specs.Entries.{IsPostLogged, WritesEntries, answer_entries, log_and}
 use Rattle.hub_agent.specs.Owning.{Accounts, has, lost, times}
-use Rattle.hub_agent.specs.Posting.{HasLine, HoldsAlike, HoldsEach, LacksNext, LacksOne, LacksPort, PostsOver, Sends, SendsOrReturns, SendsTo, TakesOut, given_back, passes}
-use Rattle.hub_agent.specs.declared.posting.Way.{Way}
-use Rattle.hub_agent.specs.declared.posting.Way.TheVariants as way
+use Rattle.hub_agent.specs.Posting.{HasLine, HoldsAlike, HoldsEach, LacksNext, LacksOne, LacksPort, PostsOver, SendsOrReturns, SendsTo, TakesOut, given_back, passes}
 use Rattle.hub_agent.specs.Acting.{Acts}
-use Rattle.hub_agent.proofs.Actions.{accounts_by, answer_loses, post_gains, posted_same, sent_same}
+use Rattle.hub_agent.proofs.Actions.{accounts_by, answer_loses, post_gains, sent_same}
 use Rattle.hub_agent.proofs.Brings.{count_held, held_in}
 use Rattle.hub_agent.proofs.Listed.{times_cons}
 use Rattle.hub_agent.proofs.Slots.{count_cons, count_more}
@@ -153,18 +154,15 @@ answer_told old new agent body ports transfer answer are sent = (
 )
 
 -- The same ends are held behind what was sent, and so much is told of its answer.
-sends_told : (w : Way) (agent : AgentId) (body : List ℕ) (ports : List PortSeat) (out sent : Slab Held) (transfer : List EndId) (answer : Result Posted PortError) → ends_of ports ≡ transfer → Sends w agent body ports out sent answer
+sends_told : (w : Way) (agent : AgentId) (body : List ℕ) (ports : List PortSeat) (out sent : Slab Held) (transfer : List EndId) (answer : Result Posted PortError) → ends_of ports ≡ transfer → PostsThrough agent body ports w out sent answer
     → ((e : ℕ) → held_in sent e ≡ held_in out e) × IsPostLogged transfer body (answer_entries transfer body answer) × ((e : ℕ) → lost e (answer_entries transfer body answer) + times e (ends_of (given_back answer)) ≤ times e transfer)
-sends_told (way.Port port) agent body ports out sent transfer answer are (key, seat, stand, at, is, was_sent, new) =
-    let (logged, loses) = answer_told seat.poster stand agent body ports transfer answer are was_sent in
-    (posted_same agent body ports out sent port answer (key, seat, stand, at, is, was_sent, new), logged, loses)
-sends_told (way.Line queue) agent body ports out sent transfer answer are (key, line, stand, at, is, was_sent, new) =
+sends_told w agent body ports out sent transfer answer are (key, h, line, stand, at, goes, is, was_sent, new) =
     let (logged, loses) = answer_told line stand agent body ports transfer answer are was_sent in
-    (sent_same agent body ports out sent queue answer (key, line, stand, at, is, was_sent, new), logged, loses)
+    (sent_same w agent body ports out sent answer (key, h, line, stand, at, goes, is, was_sent, new), logged, loses)
 
 -- What is written of a post is what may be, and the agent accounts for its ends.
 post_told : (w : Way) (transfer : List EndId) (body : List ℕ) (old : Slab Held) (before now : AgentState) → PostsOver w transfer body old now.ends before.notes now.notes → ((e : ℕ) → held_in old e ≡ has before e) → now.kept ≡ before.kept
-    → ((entries : List LogEntry) × IsPostLogged transfer body entries × Writes entries before.notes now.notes) × Accounts before now
+    → ((entries : List LogEntry) × IsPostLogged transfer body entries × WritesEntries entries before.notes now.notes) × Accounts before now
 post_told w transfer body old before now (inl (ports, answer, out, sent, are, taken, sends, back, written)) counts kept =
     let (same, logged, loses) = sends_told w before.notes.log.0 body ports out sent transfer answer are sends in
     let entries = answer_entries transfer body answer in (
@@ -205,11 +203,11 @@ has_lacked w transfer body old new before now same (alike, (ports, out, taken, n
 
 -- What was sent is settled: what came back is held again, and the answer is logged.
 settled : (w : Way) (transfer : List EndId) (body : List ℕ) (ports : Vec PortSeat Global) (answer : Result Posted PortError) (old out sent new : Slab Held) (before now : Notes) → ends_of ports.items ≡ transfer → TakesOut ports.items old out
-    → SendsOrReturns w before.log.0 body ports out sent answer → HoldsEach (given_back answer) sent new → Writes (answer_entries transfer body answer) before now → PostsOver w transfer body old new before now
+    → SendsOrReturns w before.log.0 body ports out sent answer → HoldsEach (given_back answer) sent new → WritesEntries (answer_entries transfer body answer) before now → PostsOver w transfer body old new before now
 settled w transfer body ports answer old out sent new before now are taken (inl sends) back written = inl (ports.items, answer, out, sent, are, taken, sends, back, written)
 settled w transfer body ports answer old out sent new before now are taken (inr (lacking, same, is)) back written =
     inr (
-      subst (λ a. Writes (answer_entries transfer body a) before now) is written,
+      subst (λ a. WritesEntries (answer_entries transfer body a) before now) is written,
       alike_again ports.items old out new taken (subst (λ (s : Slab Held). HoldsEach ports.items s new) same (subst (λ a. HoldsEach (given_back a) sent new) is back)),
       (ports.items, out, taken, inr lacking),
     )
@@ -217,18 +215,26 @@ settled w transfer body ports answer old out sent new before now are taken (inr 
 -- the same as the calls say it
 pub has_settled : {X E : Type 0} (logged : Result X E) (w : Way) (listed transfer : List EndId) (agent : AgentId) (copy body : List ℕ) (ports : Vec PortSeat Global) (back : List PortSeat) (answer : Result Posted PortError) (old out lent sent new : Slab Held) (before was wrote now : Notes)
     → ends_of ports.items ≡ transfer → listed ≡ transfer → agent ≡ before.log.0 → copy ≡ body → TakesOut ports.items old out → lent ≡ out → SendsOrReturns w agent copy ports lent sent answer
-    → back ≡ given_back answer → HoldsEach back sent new → was ≡ before → OnOk logged (Writes (answer_entries listed body answer) was wrote) → now ≡ wrote → OnOk logged (PostsOver w transfer body old new before now)
+    → back ≡ given_back answer → HoldsEach back sent new → was ≡ before → OnOk logged (WritesEntries (answer_entries listed body answer) was wrote) → now ≡ wrote → OnOk logged (PostsOver w transfer body old new before now)
 has_settled (Ok x) w listed transfer agent copy body ports back answer old out lent sent new before was wrote now are list whose same taken is sends came holds first written last =
     settled w transfer body ports answer old out sent new before now are taken
     (subst (λ (s : Slab Held). SendsOrReturns w before.log.0 body ports s sent answer) is
     (subst (λ (b : List ℕ). SendsOrReturns w before.log.0 b ports lent sent answer) same (subst (λ (a : AgentId). SendsOrReturns w a copy ports lent sent answer) whose sends)))
     (subst (λ (ps : List PortSeat). HoldsEach ps sent new) came holds)
-    (ap (λ (n : Notes). n.log) last ∙ subst (λ es. Writes (answer_entries es body answer) was wrote) list written ∙ ap (λ (n : Notes). log_and n.log (answer_entries transfer body answer)) first)
+    (ap (λ (n : Notes). n.log) last ∙ subst (λ es. WritesEntries (answer_entries es body answer) was wrote) list written ∙ ap (λ (n : Notes). log_and n.log (answer_entries transfer body answer)) first)
 has_settled (Err x) w listed transfer agent copy body ports back answer old out lent sent new before was wrote now are list whose same taken is sends came holds first written last = tt
+
+-- where no line to the queue is held nothing goes over one
+no_way : (queue : EndId) (slots : Slab Held) → HoldsNoLine slots queue → LacksWay (way.Line queue) slots
+no_way queue slots none (held.Port p) at is = is
+no_way queue slots none (held.Client t) at is = is
+no_way queue slots none (held.Worker t) at is = is
+no_way queue slots none (held.Member m) at is = is
+no_way queue slots none (held.Line l) at is = none l at is
 
 -- No line could be had, so nothing was sent.
 pub no_line : (queue : EndId) (transfer : List EndId) (body : List ℕ) (old new : Slab Held) (before now : Notes) → HasLine queue old new → HoldsNoLine new queue → now ≡ before → SendsTo queue transfer body old new before now
-no_line queue transfer body old new before now line none same = (new, line, inr (writes_same before now same, (λ test. refl), ([], new, refl, inr none)))
+no_line queue transfer body old new before now line none same = (new, line, inr (writes_same before now same, (λ test. refl), ([], new, refl, inr (no_way queue new none))))
 
 pub sent_over : {X E : Type 0} (r : Result X E) (queue : EndId) (transfer : List EndId) (body : List ℕ) (old lined new : Slab Held) (before was now : Notes) → HasLine queue old lined → was ≡ before → OnOk r (PostsOver (way.Line queue) transfer body lined new was now) → OnOk r (SendsTo queue transfer body old new before now)
 sent_over (Ok x) queue transfer body old lined new before was now line same posts = (lined, line, subst (λ (n : Notes). PostsOver (way.Line queue) transfer body lined new n now) same posts)

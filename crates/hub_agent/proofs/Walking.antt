@@ -31,12 +31,12 @@ use Rattle.hub_trace.specs.declared.log_entry.LogEntry.{LogEntry}
 use Rattle.hub_trace.specs.declared.log_entry.LogEntry.TheVariants.{Put, Adopted}
 use Rattle.hub_agent.specs.Agents.{AgentState, CastsFrom}
 use Rattle.hub_agent.specs.Casting.{HasCast}
-use Rattle.hub_agent.specs.Entries.{AreAdoptions, AreClosings, IsCastLogged, IsCloseLogged, IsClosing, IsPostLogged, Writes, answer_entries, cast_entries, closed_entries, closing_entries, doomed_entries, log_and, outcome_entries}
+use Rattle.hub_agent.specs.Entries.{AreAdoptions, AreClosings, IsCastLogged, IsCloseLogged, IsClosing, IsPostLogged, WritesEntries, answer_entries, cast_entries, closed_entries, closing_entries, doomed_entries, log_and, outcome_entries}
 use Rattle.hub_agent.proofs.Writing.{writes_both, writes_same}
 
 -- these ends were adopted, and nothing else is written
 abbrev pub Adopts : List EndId → Notes → Notes → Type 0
-Adopts ends before after = (entries : List LogEntry) × AreAdoptions ends entries × Writes entries before after
+Adopts ends before after = (entries : List LogEntry) × AreAdoptions ends entries × WritesEntries entries before after
 
 adoptions_more : (ends : List EndId) (end : EndId) (epoch : ℕ) (entries : List LogEntry) → AreAdoptions ends entries → AreAdoptions (ends ++ end ∷ []) (entries ++ Adopted end epoch ∷ [])
 adoptions_more [] end epoch entries is = (epoch, [], ap (λ (es : List LogEntry). es ++ Adopted end epoch ∷ []) is, refl)
@@ -44,7 +44,7 @@ adoptions_more (e ∷ ends) end epoch entries (at, rest, is, adopted) =
     (at, rest ++ Adopted end epoch ∷ [], ap (λ (es : List LogEntry). es ++ Adopted end epoch ∷ []) is, adoptions_more ends end epoch rest adopted)
 
 -- one end more
-pub adopts_more : (ends all : List EndId) (end : EndId) (before now after : Notes) → all ≡ ends ++ end ∷ [] → Adopts ends before now → ((epoch : ℕ) × Writes (Adopted end epoch ∷ []) now after) → Adopts all before after
+pub adopts_more : (ends all : List EndId) (end : EndId) (before now after : Notes) → all ≡ ends ++ end ∷ [] → Adopts ends before now → ((epoch : ℕ) × WritesEntries (Adopted end epoch ∷ []) now after) → Adopts all before after
 adopts_more ends all end before now after is (entries, adopted, written) (epoch, more) =
     (entries ++ Adopted end epoch ∷ [], subst (λ (es : List EndId). AreAdoptions es (entries ++ Adopted end epoch ∷ [])) (sym is) (adoptions_more ends end epoch entries adopted), writes_both entries (Adopted end epoch ∷ []) before now after written more)
 
@@ -54,7 +54,7 @@ adopts_since (Ok x) listed ends before mid now is same (entries, all, written) =
 adopts_since (Err x) listed ends before mid now is same adopts = tt
 
 -- one post more of a cast
-pub cast_more : (body : List ℕ) (outcomes all : List (EndId × CastOutcome)) (o : EndId × CastOutcome) (before now after : Notes) → all ≡ outcomes ++ o ∷ [] → Writes (cast_entries body outcomes) before now → Writes (outcome_entries body o.1) now after → Writes (cast_entries body all) before after
+pub cast_more : (body : List ℕ) (outcomes all : List (EndId × CastOutcome)) (o : EndId × CastOutcome) (before now after : Notes) → all ≡ outcomes ++ o ∷ [] → WritesEntries (cast_entries body outcomes) before now → WritesEntries (outcome_entries body o.1) now after → WritesEntries (cast_entries body all) before after
 cast_more body outcomes all o before now after is written more =
     writes_both (cast_entries body outcomes) (outcome_entries body o.1) before now after written more
     ∙ ap (λ (es : List LogEntry). log_and before.log es)
@@ -82,7 +82,7 @@ cast_logged body member low high ((end, OutOfMemory) ∷ outcomes) (least, behin
     cast_logged body member low high outcomes (lower low (end.0 + 1) high (map (λ o. o.0.0) outcomes) (omega arith) behind) (All-tail (IsToldApart member) (end, OutOfMemory) outcomes told)
 
 pub cast_of : {X E : Type 0} (result : Result X E) (source : MemberSeat) (member : EndId) (body : List ℕ) (told outcomes : List (EndId × CastOutcome)) (old now new : Notes) → source.taker.end ≡ member.0 → AreDestinations source told → outcomes ≡ told
-    → old ≡ now → OnOk result (Writes (cast_entries body outcomes) old new) → OnOk result ((entries : List LogEntry) × IsCastLogged member body entries × Writes entries now new)
+    → old ≡ now → OnOk result (WritesEntries (cast_entries body outcomes) old new) → OnOk result ((entries : List LogEntry) × IsCastLogged member body entries × WritesEntries entries now new)
 cast_of (Ok x) source member body told outcomes old now new at is listed same written =
     let others : All (λ (o : EndId × CastOutcome). o.0.0 ≢ member.0) told = subst (λ (n : ℕ). All (λ (o : EndId × CastOutcome). o.0.0 ≢ n) told) at is.others in
     let apart : All (IsToldApart member.0) told = λ k d low. (others k d low, is.named k d low) in
@@ -92,7 +92,7 @@ cast_of (Err e) source member body told outcomes old now new at is listed same w
 
 -- the same at the end that a member has, and of notes as they were
 pub cast_at : {X E : Type 0} (result : Result X E) (end : ℕ) (member : EndId) (body : List ℕ) (old now new : Notes) → end ≡ member.0 → old ≡ now
-    → OnOk result ((entries : List LogEntry) × IsCastLogged (record { 0 = end }) body entries × Writes entries old new) → OnOk result ((entries : List LogEntry) × IsCastLogged member body entries × Writes entries now new)
+    → OnOk result ((entries : List LogEntry) × IsCastLogged (record { 0 = end }) body entries × WritesEntries entries old new) → OnOk result ((entries : List LogEntry) × IsCastLogged member body entries × WritesEntries entries now new)
 cast_at (Ok x) end member body old now new at same (entries, logged, written) =
     (entries, subst (λ (e : ℕ). IsCastLogged (record { 0 = e }) body entries) at logged, written ∙ ap (λ (n : Notes). log_and n.log entries) same)
 cast_at (Err e) end member body old now new at same written = tt
@@ -105,7 +105,7 @@ cast_from (Ok x) end body inside before now member same held at cast =
 cast_from (Err e) end body inside before now member same held at cast = tt
 
 -- one closing more
-pub doomed_more : (closings all : List Closing) (c : Closing) (before now after : Notes) → all ≡ closings ++ c ∷ [] → Writes (doomed_entries closings) before now → Writes (closing_entries c.end c.noticed) now after → Writes (doomed_entries all) before after
+pub doomed_more : (closings all : List Closing) (c : Closing) (before now after : Notes) → all ≡ closings ++ c ∷ [] → WritesEntries (doomed_entries closings) before now → WritesEntries (closing_entries c.end c.noticed) now after → WritesEntries (doomed_entries all) before after
 doomed_more closings all c before now after is written more =
     writes_both (doomed_entries closings) (closing_entries c.end c.noticed) before now after written more
     ∙ ap (λ (es : List LogEntry). (before.log.0, before.log.1 ++ es))
@@ -124,8 +124,8 @@ pub closed_so : (end : EndId) (port : Option ClosedPort) → IsClosing end (clos
 closed_so end None = inl refl
 closed_so end (Some port) = is_closing end port.noticed
 
-pub close_of : {X E : Type 0} (result : Result X E) (end : EndId) (port : Option ClosedPort) (old now new : Notes) → old ≡ now → OnOk result (Writes (closed_entries end port) old new)
-    → OnOk result ((entries : List LogEntry) × IsCloseLogged end entries × Writes entries now new)
+pub close_of : {X E : Type 0} (result : Result X E) (end : EndId) (port : Option ClosedPort) (old now new : Notes) → old ≡ now → OnOk result (WritesEntries (closed_entries end port) old new)
+    → OnOk result ((entries : List LogEntry) × IsCloseLogged end entries × WritesEntries entries now new)
 close_of (Ok x) end port old now new same written = (closed_entries end port, inr (closed_so end port), written ∙ ap (λ (n : Notes). log_and n.log (closed_entries end port)) same)
 close_of (Err e) end port old now new same written = tt
 

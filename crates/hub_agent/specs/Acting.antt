@@ -10,7 +10,7 @@ use Rattle.hub_trace.specs.Accepted.{AgentLog}
 use Rattle.hub_logging.specs.Notes.{Notes}
 use Rattle.hub_trace.specs.declared.log_entry.LogEntry.{LogEntry}
 use Rattle.hub_agent.specs.Agents.{AgentState, Changes}
-use Rattle.hub_agent.specs.Entries.{AreEndings, AreLoggedFor, IsLoggedFor, Writes}
+use Rattle.hub_agent.specs.Entries.{AreEndings, AreLoggedFor, IsLoggedFor, WritesEntries}
 use Rattle.hub_agent.specs.Given.{given}
 use Rattle.hub_agent.specs.Owning.{Accounts, LeavesOwn, UsesOwn, has, times}
 use Rattle.hub_agent.specs.Posts.{Message, messages_put}
@@ -35,7 +35,7 @@ ArePutFor (action ∷ later) messages =
 
 -- the agent has written of the action what it may
 abbrev pub ActLogs : ActionKind → Notes → Notes → Type 0
-ActLogs action before after = (entries : List LogEntry) × IsLoggedFor action entries × Writes entries before after
+ActLogs action before after = (entries : List LogEntry) × IsLoggedFor action entries × WritesEntries entries before after
 
 -- The agent has done the action: it has written what it may, and changed of itself what the action names. What its loop holds has
 -- changed as it has written, and by a hand it may hold less.
@@ -45,7 +45,7 @@ Acts action before after = ActLogs action before.notes after.notes × Changes ac
 -- It has written of these actions what it may, one after the other, and used its own ends.
 abbrev pub ActsAll : List ActionKind → AgentState → AgentState → Type 0
 ActsAll all before after =
-    (entries : List LogEntry) × AreLoggedFor all entries × Writes entries before.notes after.notes
+    (entries : List LogEntry) × AreLoggedFor all entries × WritesEntries entries before.notes after.notes
     × (before.kept ≡ None → (after.kept ≡ None) × LeavesOwn (has before) entries (has after))
 
 -- So many of all actions were done, before the next one of which the order to end came; or all were done.

@@ -18,7 +18,7 @@ use Rattle.hub_loop.specs.States.{DeliveryState}
 use Rattle.hub_ports.specs.Seats.{PortSeat, end_of}
 use Rattle.hub_agent.specs.Casting.{HasCast}
 use Rattle.hub_agent.specs.declared.shared.Peer.{Peer}
-use Rattle.hub_agent.specs.declared.posting.Way.TheVariants as way
+use Rattle.hub_loop.specs.declared.posting.Way.TheVariants as way
 use Rattle.hub_agent.specs.Posting.{PostsOver, SendsTo}
 use Rattle.hub_script.specs.declared.action.ActionKind.{ActionKind}
 use Rattle.hub_script.specs.declared.action.ActionKind.TheVariants.{Post, Send, Cast, Start, Loaded, Close, Order, Event, Hand}
@@ -39,8 +39,8 @@ abbrev pub woken : Peer → Peer
 woken peer = record peer { bell = record peer.bell { at = record peer.bell.at { wakes = peer.bell.at.wakes + 1 } } }
 
 -- the agent is given the order to end, and woken
-abbrev pub ordered : Peer → Peer
-ordered peer = woken (record peer { order = record peer.order { gives = peer.order.gives + 1 } })
+abbrev pub peer_ordered : Peer → Peer
+peer_ordered peer = woken (record peer { order = record peer.order { gives = peer.order.gives + 1 } })
 
 -- the agents with that one changed, if there is one of that number
 abbrev pub with_found : (Peer → Peer) → ℕ → List Peer → Option Peer → List Peer
@@ -75,8 +75,8 @@ abbrev pub KeepsButEnds : AgentState → AgentState → Type 0
 KeepsButEnds before now = now ≡ record before { ends = now.ends }
 
 -- its loop holds the port of this number
-abbrev pub HoldsPort : AgentState → EndId → Type 0
-HoldsPort a end = (port : PortSeat) × Holds a.ends (Port port) × (end_of port ≡ end)
+abbrev pub HoldsPortInLoop : AgentState → EndId → Type 0
+HoldsPortInLoop a end = (port : PortSeat) × Holds a.ends (Port port) × (end_of port ≡ end)
 
 -- Its member of this number has cast the body, which is written; where it holds no such member nothing has changed.
 abbrev pub CastsFrom : EndId → List ℕ → AgentState → AgentState → Type 0
@@ -93,12 +93,12 @@ StartsEnd end before now =
     ⊎ (HoldsNoPort before.ends end × ((is_held : Bool) × StartsClient before.ends now.ends end is_held)))
 
 -- the client's queue of this number was started, where it is held
-abbrev pub StartsQueue : EndId → AgentState → AgentState → Type 0
-StartsQueue queue before now = KeepsButEnds before now × ((is_held : Bool) × StartsClient before.ends now.ends queue is_held)
+abbrev pub StartsClientQueue : EndId → AgentState → AgentState → Type 0
+StartsClientQueue queue before now = KeepsButEnds before now × ((is_held : Bool) × StartsClient before.ends now.ends queue is_held)
 
 -- The end of this number is held no more, and a member has left the roster; where it wasn't held nothing was written, and nothing has changed.
-abbrev pub ClosesHeld : EndId → AgentState → AgentState → Type 0
-ClosesHeld end before now =
+abbrev pub ClosesOwn : EndId → AgentState → AgentState → Type 0
+ClosesOwn end before now =
     (HoldsNoEnd before.ends end × (now ≡ before))
     ⊎ ((held : Held) × (end_held held ≡ Some end) × HoldsMore now.ends before.ends held × (now.roster ≡ left_by held before.roster))
 
@@ -118,9 +118,9 @@ Changes (Send queue body transfer) before now =
     KeepsElse before now × SendsTo queue transfer body before.ends now.ends before.notes now.notes
 Changes (Cast member body) before now = KeepsButCasts before now × CastsFrom member body before now
 Changes (Start end) before now = StartsEnd end before now
-Changes (Loaded queue) before now = StartsQueue queue before now
-Changes (Close end) before now = KeepsButClosings before now × ClosesHeld end before now
-Changes (Order to) before now = now ≡ record before { peers = with_peer ordered to.0 before.peers }
+Changes (Loaded queue) before now = StartsClientQueue queue before now
+Changes (Close end) before now = KeepsButClosings before now × ClosesOwn end before now
+Changes (Order to) before now = now ≡ record before { peers = with_peer peer_ordered to.0 before.peers }
 Changes (Event event) before now = now ≡ record before { life = option_map (λ p. after p event) before.life }
 Changes (Hand to) before now =
     KeepsButEnds before now ⊎ (now ≡ record before { ends = now.ends; peers = with_peer woken to.0 before.peers })

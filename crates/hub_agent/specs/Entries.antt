@@ -32,8 +32,8 @@ abbrev pub log_and : AgentLog → List LogEntry → AgentLog
 log_and log entries = (log.0, log.1 ++ entries)
 
 -- the agent has written these entries, in this order, and no others
-abbrev pub Writes : List LogEntry → Notes → Notes → Type 0
-Writes entries before after = after.log ≡ log_and before.log entries
+abbrev pub WritesEntries : List LogEntry → Notes → Notes → Type 0
+WritesEntries entries before after = after.log ≡ log_and before.log entries
 
 -- the agent has written nothing
 abbrev pub WritesNothing : Notes → Notes → Type 0
@@ -106,9 +106,9 @@ AreAdoptions (end ∷ ends) entries =
     (epoch : ℕ) × (rest : List LogEntry) × (entries ≡ Adopted end epoch ∷ rest) × AreAdoptions ends rest
 
 -- the ports that a delivery lists; a notice lists none
-abbrev pub ports_in : Content → List EndId
-ports_in (content.Message m) = m.0
-ports_in content.Notice = []
+abbrev pub ports_listed : Content → List EndId
+ports_listed (content.Payload m) = m.0
+ports_listed content.Notice = []
 
 -- some of these ends were adopted, in the order of the list
 abbrev pub AreAdoptedOf : List EndId → List LogEntry → Type 0
@@ -119,15 +119,15 @@ AreAdoptedOf (end ∷ ends) entries =
 -- A turn: nothing, or one delivery, behind which those of its ports that were found are adopted, in list order.
 abbrev pub IsTurnLogged : List LogEntry → Type 0
 IsTurnLogged entries =
-    (entries ≡ []) ⊎ ((d : Delivery) × (adoptions : List LogEntry) × (entries ≡ Got d ∷ adoptions) × AreAdoptedOf (ports_in d.content) adoptions)
+    (entries ≡ []) ⊎ ((d : Delivery) × (adoptions : List LogEntry) × (entries ≡ Got d ∷ adoptions) × AreAdoptedOf (ports_listed d.content) adoptions)
 
 -- turns, one after the other
-abbrev pub AreTurns : List (List LogEntry) → Type 0
-AreTurns [] = Unit {0}
-AreTurns (turn ∷ turns) = IsTurnLogged turn × AreTurns turns
+abbrev pub AreTurnEntries : List (List LogEntry) → Type 0
+AreTurnEntries [] = Unit {0}
+AreTurnEntries (turn ∷ turns) = IsTurnLogged turn × AreTurnEntries turns
 
 abbrev pub AreTurnsLogged : List LogEntry → Type 0
-AreTurnsLogged entries = (turns : List (List LogEntry)) × (entries ≡ flat_map (λ turn. turn) turns) × AreTurns turns
+AreTurnsLogged entries = (turns : List (List LogEntry)) × (entries ≡ flat_map (λ turn. turn) turns) × AreTurnEntries turns
 
 -- the agent took turns, and then adopted the queue that it fetched, unless it was ordered to end before
 abbrev pub IsFetchLogged : EndId → List LogEntry → Type 0

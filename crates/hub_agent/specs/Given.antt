@@ -2,10 +2,10 @@
 use Rattle.std.specs.Prelude.{◌≡◌, ◌+◌, ◌==◌, ℕ, List, [], ◌∷◌, ◌++◌, if◌then◌else◌, length, None}
 use Rattle.hub_envelope.specs.declared.ids.AgentId.{AgentId}
 use Rattle.hub_envelope.specs.declared.ids.EndId.{EndId}
-use Rattle.hub_script.specs.Contents.{Contents, agents, channels, members}
+use Rattle.hub_script.specs.Contents.{Contents, declared_agents, channels, members}
 use Rattle.hub_script.specs.Known.{port_count, queue_of}
-use Rattle.hub_script.specs.declared.declaration.DeclaredChannel.{DeclaredChannel}
-use Rattle.hub_script.specs.declared.declaration.DeclaredMember.{DeclaredMember}
+use Rattle.hub_script.specs.declared.script.DeclaredChannel.{DeclaredChannel}
+use Rattle.hub_script.specs.declared.script.DeclaredMember.{DeclaredMember}
 use Rattle.hub_agent.specs.Agents.{AgentState}
 use Rattle.hub_agent.specs.Owning.{has, times}
 
@@ -16,10 +16,10 @@ where_at number at ends = if at.0 == number then ends else []
 -- Ends are numbered as the actions of a script name them: the queues of the agents, then the ports, then the members, each in the order
 -- of the file. This is the port, and this the member, that has that place among all of them.
 abbrev pub port_at : Contents → ℕ → EndId
-port_at script place = record { 0 = length (agents script) + place }
+port_at script place = record { 0 = length (declared_agents script) + place }
 
 abbrev pub member_at : Contents → ℕ → EndId
-member_at script place = record { 0 = length (agents script) + port_count script + place }
+member_at script place = record { 0 = length (declared_agents script) + port_count script + place }
 
 -- the two ports of each of these channels that is declared at the agent of this number; the first port has this place
 abbrev pub ports_from : Contents → ℕ → ℕ → List DeclaredChannel → List EndId

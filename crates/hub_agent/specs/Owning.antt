@@ -10,7 +10,7 @@ use Rattle.hub_loop.specs.declared.handler.Turn.TheVariants.{Delivered, Idle, En
 use Rattle.hub_trace.specs.declared.log_entry.LogEntry.{LogEntry}
 use Rattle.hub_trace.specs.declared.log_entry.LogEntry.TheVariants.{Put, Got, Adopted, Closed}
 use Rattle.hub_agent.specs.Agents.{AgentState}
-use Rattle.hub_agent.specs.Entries.{ports_in}
+use Rattle.hub_agent.specs.Entries.{ports_listed}
 
 -- how often the end of that number stands in the list
 abbrev pub times : ℕ → List EndId → ℕ
@@ -25,7 +25,7 @@ gained_by e (Closed end) = 0
 
 -- how often the entry says that the end was closed, or sent along with a message
 abbrev pub lost_by : ℕ → LogEntry → ℕ
-lost_by e (Put d) = times e (ports_in d.content)
+lost_by e (Put d) = times e (ports_listed d.content)
 lost_by e (Closed end) = times e (end ∷ [])
 lost_by e (Got d) = 0
 lost_by e (Adopted end epoch) = 0
@@ -50,8 +50,8 @@ abbrev pub has : AgentState → ℕ → ℕ
 has a e = count_by (is_held e) a.ends.slots
 
 -- how many ends of this number are held
-abbrev pub held_by : Slab Held → ℕ → ℕ
-held_by held e = count_by (is_held e) held.slots
+abbrev pub times_held : Slab Held → ℕ → ℕ
+times_held held e = count_by (is_held e) held.slots
 
 -- The loop holds no end that it didn't hold.
 abbrev pub HoldsNoMore : AgentState → AgentState → Type 0

@@ -8,17 +8,17 @@ use Rattle.hub_envelope.specs.declared.posted.Posted.{Posted}
 use Rattle.hub_logging.specs.Notes.{Notes}
 use Rattle.hub_loop.specs.Adopting.{HoldsMore}
 use Rattle.hub_loop.specs.Holding.{end_held}
-use Rattle.hub_loop.specs.Looking.{Holds, HoldsNoEnd, HoldsNoLine, HoldsNoPort}
-use Rattle.hub_loop.specs.Posting.{PostsFromPort, SendsOverLine}
+use Rattle.hub_loop.specs.Looking.{Holds, HoldsNoEnd, LacksWay}
+use Rattle.hub_loop.specs.Posting.{PostsThrough}
+use Rattle.hub_loop.specs.declared.posting.Way.{Way}
+use Rattle.hub_loop.specs.declared.posting.Way.TheVariants as way
 use Rattle.hub_loop.specs.declared.held.Held.{Held}
 use Rattle.hub_loop.specs.declared.held.Held.TheVariants as held
 use Rattle.hub_ports.specs.Seats.{PortSeat, ends_of}
 use Rattle.hub_ports.specs.declared.error.PortError.{PortError}
 use Rattle.hub_ports.specs.declared.error.PortError.TheVariants as error
 use Rattle.hub_queue.specs.Standing.{StandSeat}
-use Rattle.hub_agent.specs.declared.posting.Way.{Way}
-use Rattle.hub_agent.specs.declared.posting.Way.TheVariants as way
-use Rattle.hub_agent.specs.Entries.{Writes, answer_entries}
+use Rattle.hub_agent.specs.Entries.{WritesEntries, answer_entries}
 
 -- the ports that come back with the answer to a post
 abbrev pub given_back : Result Posted PortError → List PortSeat
@@ -66,32 +66,22 @@ LacksNext ends ports slots = (end : EndId) × (later : List EndId) × (ends ≡ 
 abbrev pub LacksOne : List EndId → Slab Held → Slab Held → Type 0
 LacksOne ends old new = HoldsAlike old new × ((ports : List PortSeat) × (out : Slab Held) × TakesOut ports old out × LacksNext ends ports out)
 
--- This was sent with these ports, over the port or the line, and so answered.
-abbrev pub Sends : Way → AgentId → List ℕ → List PortSeat → Slab Held → Slab Held → Result Posted PortError → Type 0
-Sends (way.Port port) agent body ports old new answer = PostsFromPort agent body ports old new port answer
-Sends (way.Line queue) agent body ports old new answer = SendsOverLine agent body ports old new queue answer
-
--- no such port or line is held
-abbrev pub LacksWay : Way → Slab Held → Type 0
-LacksWay (way.Port port) slots = HoldsNoPort slots port
-LacksWay (way.Line queue) slots = HoldsNoLine slots queue
-
 -- It was sent; or the port or the line isn't held, and all came back as at an end that is closed.
 abbrev pub SendsOrReturns : Way → AgentId → List ℕ → Vec PortSeat Global → Slab Held → Slab Held → Result Posted PortError → Type 0
 SendsOrReturns w agent body ports old new answer =
-    Sends w agent body ports.items old new answer ⊎ (LacksWay w old × (new ≡ old) × (answer ≡ Err (error.Closed body ports)))
+    PostsThrough agent body ports.items w old new answer ⊎ (LacksWay w old × (new ≡ old) × (answer ≡ Err (error.Closed body ports)))
 
 -- The ports of the list were taken out and sent. Those that the answer gives back are held again, and what the answer says is written.
 abbrev pub HasSent : Way → List EndId → List ℕ → Slab Held → Slab Held → Notes → Notes → Type 0
 HasSent w transfer body old new before now =
     (ports : List PortSeat) × (answer : Result Posted PortError) × (out : Slab Held) × (sent : Slab Held)
-    × (ends_of ports ≡ transfer) × TakesOut ports old out × Sends w before.log.0 body ports out sent answer × HoldsEach (given_back answer) sent new
-    × Writes (answer_entries transfer body answer) before now
+    × (ends_of ports ≡ transfer) × TakesOut ports old out × PostsThrough before.log.0 body ports w out sent answer × HoldsEach (given_back answer) sent new
+    × WritesEntries (answer_entries transfer body answer) before now
 
 -- Some ports were taken out, and then what is needed was lacking: nothing was sent or written, and all is held as before.
 abbrev pub HasSkipped : Way → List EndId → Slab Held → Slab Held → Notes → Notes → Type 0
 HasSkipped w transfer old new before now =
-    Writes [] before now × HoldsAlike old new
+    WritesEntries [] before now × HoldsAlike old new
     × ((ports : List PortSeat) × (out : Slab Held) × TakesOut ports old out × (LacksNext transfer ports out ⊎ LacksWay w out))
 
 -- what a post comes to

@@ -13,7 +13,7 @@ Message = List EndId × List ℕ
 
 -- a notice is no message
 abbrev pub message_in : Content → Option Message
-message_in (content.Message m) = Some m
+message_in (content.Payload m) = Some m
 message_in content.Notice = None
 
 abbrev pub message_put : LogEntry → Option Message

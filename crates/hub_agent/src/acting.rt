@@ -5,9 +5,9 @@ ghost use Rattle.hub_agent.specs.Doing.{actions_of};
 ghost use Rattle.hub_life.specs.Course.{after as lived};
 ghost use Rattle.hub_script.specs.Contents.{actions};
 ghost use Rattle.hub_script.specs.declared.action.ActionKind.TheVariants.{Hand};
-ghost use Rattle.hub_agent.specs.Agents.{Changes, ClosesHeld, KeepsButEnds, KeepsButClosings};
-ghost use Rattle.hub_agent.specs.Agents.{StartsEnd, ordered, with_peer, woken};
-ghost use Rattle.hub_agent.specs.Entries.{IsCloseLogged, Writes};
+ghost use Rattle.hub_agent.specs.Agents.{Changes, ClosesOwn, KeepsButEnds, KeepsButClosings};
+ghost use Rattle.hub_agent.specs.Agents.{StartsEnd, peer_ordered, with_peer, woken};
+ghost use Rattle.hub_agent.specs.Entries.{IsCloseLogged, WritesEntries};
 ghost use Rattle.hub_agent.specs.Owning.{Accounts, HoldsNoMore};
 ghost use Rattle.hub_agent.specs.Acting.{ActsFirst};
 ghost use Rattle.hub_trace.specs.declared.log_entry.LogEntry.{LogEntry};
@@ -15,14 +15,13 @@ ghost use Rattle.hub_trace.specs.declared.log_entry.LogEntry.{LogEntry};
 use crate::actor::{Acted, Actor, act_all};
 use crate::agent::Agent;
 use crate::logging::log_closed_end;
-use crate::posting::Way;
 use crate::shared::{Peer, Shared, order_all};
 use hub_broadcast::Roster;
 use hub_clients::{Directory, HandError};
 use hub_envelope::{AgentId, EndId, OutOfMemory};
 use hub_life::{Event, Life};
 use hub_locked::Lends;
-use hub_loop::{Checkpoint, Held};
+use hub_loop::{Checkpoint, Held, Way};
 use hub_script::{ActionKind, Script};
 use std::sync::Wait;
 
@@ -37,7 +36,7 @@ pub(crate) enum Awaited {
     Queue(EndId),
 }
 
-// The error of a hand that was refused for want of memory.
+/// The error of a hand that was refused for want of memory.
 fn want_of(error: HandError) -> Option<OutOfMemory> {
     match error {
         HandError::OutOfMemory => Some(OutOfMemory),
@@ -45,8 +44,8 @@ fn want_of(error: HandError) -> Option<OutOfMemory> {
     }
 }
 
-// Gives a queue to an agent. Where it wasn't handed it comes back, with an error where that was for
-// want of memory; so does what is no queue.
+/// Gives a queue to an agent. Where it wasn't handed it comes back, with an error where that was
+/// for want of memory; so does what is no queue.
 fn hand_over<R: Wait>(
     rt: &R,
     directory: &Directory,
@@ -68,7 +67,7 @@ fn hand_over<R: Wait>(
     }
 }
 
-// An event of the life of a worker, which refuses what its state doesn't allow.
+/// An event of the life of a worker, which refuses what its state doesn't allow.
 fn live(life: &mut Option<Life>, event: Event)
     ensures { life.new ≡ option_map (λ p. lived p event) life.old }
 {
@@ -77,9 +76,9 @@ fn live(life: &mut Option<Life>, event: Event)
     }
 }
 
-// Gives an agent the order to end.
+/// Gives an agent the order to end.
 fn give_order(peers: &mut Vec<Peer>, to: AgentId)
-    ensures { peers.new.items ≡ with_peer ordered to.0 peers.old.items }
+    ensures { peers.new.items ≡ with_peer peer_ordered to.0 peers.old.items }
 {
     if let Some(peer) = peers.get_mut(usize::from(to.0)) {
         peer.order();
@@ -115,7 +114,7 @@ impl<'s, C: Checkpoint, K: Lends<Roster> + Drop> Agent<'s, C, K> {
         }
     }
 
-    // Enables a port or a client's queue.
+    /// Enables a port or a client's queue.
     fn start(&mut self, end: EndId)
         ensures { StartsEnd end self.old self.new }
     {
@@ -124,12 +123,12 @@ impl<'s, C: Checkpoint, K: Lends<Roster> + Drop> Agent<'s, C, K> {
         }
     }
 
-    // Closes a port or a member, and logs it. What waits there is discarded once the loop has
-    // ended.
+    /// Closes a port or a member, and logs it. What waits there is discarded once the loop has
+    /// ended.
     fn close<R: Wait>(&mut self, rt: &R, end: EndId) -> Result<(), OutOfMemory>
         ensures written { OnOk result ((entries : List LogEntry) × IsCloseLogged end entries
-            × Writes entries self.old.notes self.new.notes) }
-        ensures held { OnOk result (ClosesHeld end self.old self.new) }
+            × WritesEntries entries self.old.notes self.new.notes) }
+        ensures held { OnOk result (ClosesOwn end self.old self.new) }
         ensures own { OnOk result (Accounts self.old self.new) }
         ensures rest { KeepsButClosings self.old self.new }
     {
@@ -142,8 +141,8 @@ impl<'s, C: Checkpoint, K: Lends<Roster> + Drop> Agent<'s, C, K> {
         log_closed_end(&mut self.scribe, end, closed.port)
     }
 
-    // Hands its own queue to an agent, which it wakes. Where it wasn't handed it holds the queue
-    // again. The queues of the agents are the first ends, in the order of the agents.
+    /// Hands its own queue to an agent, which it wakes. Where it wasn't handed it holds the queue
+    /// again. The queues of the agents are the first ends, in the order of the agents.
     fn hand<R: Wait>(&mut self, rt: &R, to: AgentId) -> Result<(), OutOfMemory>
         ensures changes { OnOk result (Changes (Hand to) self.old self.new) }
         ensures held { OnOk result (HoldsNoMore self.old self.new) }

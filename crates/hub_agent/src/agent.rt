@@ -1,5 +1,5 @@
 ghost use Rattle.std.specs.Prelude.{◌≡◌, ◌≤◌, ◌+◌, ℕ, List, true, IfOk, OnOk};
-ghost use Rattle.hub_agent.specs.Agents.{HoldsPort, KeepsButNotes, KeepsButTurns, KeepsElse};
+ghost use Rattle.hub_agent.specs.Agents.{HoldsPortInLoop, KeepsButNotes, KeepsButTurns, KeepsElse};
 ghost use Rattle.hub_agent.specs.Entries.{
   AreAdoptions,
   AreEndings,
@@ -7,7 +7,7 @@ ghost use Rattle.hub_agent.specs.Entries.{
   IsTurnLogged,
   IsWaitLogged,
   TurnLeaves,
-  Writes,
+  WritesEntries,
   log_and,
 };
 ghost use Rattle.hub_agent.specs.Given.{IsGiven};
@@ -105,14 +105,14 @@ impl<'s, C: Checkpoint, K: Lends<Roster> + Drop> Model for Agent<'s, C, K> {
     } };
 }
 
-// Logs that these ends were adopted, in order.
+/// Logs that these ends were adopted, in order.
 fn log_all_adopted<C: Checkpoint>(
     scribe: &mut Scribe,
     event_loop: &AgentLoop<'_, C>,
     ends: &[EndId],
 ) -> Result<(), OutOfMemory>
     ensures { OnOk result ((entries : List LogEntry) × AreAdoptions ends.now entries
-        × Writes entries scribe.old scribe.new) }
+        × WritesEntries entries scribe.old scribe.new) }
 {
     for end in ends {
         log_adopted(scribe, *end, epoch_of(event_loop.held(*end)))?;
@@ -143,7 +143,7 @@ impl<'s, C: Checkpoint, K: Lends<Roster> + Drop> Agent<'s, C, K> {
         })
     }
 
-    // Ends the loop, and answers the log. Where memory runs out all agents are ordered to end.
+    /// Ends the loop, and answers the log. Where memory runs out all agents are ordered to end.
     fn finish<R: Wait>(self, rt: &R) -> Result<Log, OutOfMemory>
         ensures written { IfOk result (λ log. (entries : List LogEntry) × AreEndings entries
             × (log ≡ log_and self.entry.notes.log entries)) }
@@ -172,16 +172,16 @@ impl<'s, C: Checkpoint, K: Lends<Roster> + Drop> Agent<'s, C, K> {
 
     /// Whether it holds the port.
     pub(crate) fn holds_port(&self, end: EndId) -> bool
-        ensures { result ≡ true → HoldsPort self.now end }
+        ensures { result ≡ true → HoldsPortInLoop self.now end }
     {
         matches!(self.event_loop.held(end), Some(Held::Port(_)))
     }
 
-    // Logs that it has adopted the ports that came with the last delivery.
+    /// Logs that it has adopted the ports that came with the last delivery.
     fn log_delivered(&mut self) -> Result<(), OutOfMemory>
         ensures written { OnOk result ((entries : List LogEntry)
             × AreAdoptions self.old.notes.adopted entries
-            × Writes entries self.old.notes self.new.notes) }
+            × WritesEntries entries self.old.notes self.new.notes) }
         ensures rest { KeepsButNotes self.old self.new }
     {
         let adopted = self.scribe.take_adopted();
@@ -202,10 +202,10 @@ impl<'s, C: Checkpoint, K: Lends<Roster> + Drop> Agent<'s, C, K> {
         turn
     }
 
-    // Makes a turn, and logs the ports that were adopted in it.
+    /// Makes a turn, and logs the ports that were adopted in it.
     fn turn<R: Wait>(&mut self, rt: &R) -> Result<Turn, OutOfMemory>
         ensures written { OnOk result ((entries : List LogEntry) × IsTurnLogged entries
-            × Writes entries self.old.notes self.new.notes) }
+            × WritesEntries entries self.old.notes self.new.notes) }
         ensures own { OnOk result (Accounts self.old self.new) }
         ensures rest { KeepsButTurns self.old self.new }
     {
@@ -222,11 +222,12 @@ impl<'s, C: Checkpoint, K: Lends<Roster> + Drop> Agent<'s, C, K> {
         }
     }
 
-    // Takes the queue that was handed to it, logs that and enables the queue. Whether it was there.
+    /// Takes the queue that was handed to it, logs that and enables the queue. Whether it was
+    /// there.
     fn fetch<R: Wait>(&mut self, rt: &R, end: EndId) -> Result<bool, OutOfMemory>
         ensures written { IfOk result (λ came. (entries : List LogEntry)
             × IsComeLogged (Awaited.Queue end) came entries
-            × Writes entries self.old.notes self.new.notes) }
+            × WritesEntries entries self.old.notes self.new.notes) }
         ensures own { OnOk result (Accounts self.old self.new) }
         ensures rest { KeepsElse self.old self.new }
     {
@@ -241,11 +242,11 @@ impl<'s, C: Checkpoint, K: Lends<Roster> + Drop> Agent<'s, C, K> {
         Ok(true)
     }
 
-    // Whether what it waits for has come.
+    /// Whether what it waits for has come.
     fn has_come<R: Wait>(&mut self, rt: &R, awaited: Awaited) -> Result<bool, OutOfMemory>
         ensures written { IfOk result (λ came. (entries : List LogEntry)
             × IsComeLogged awaited came entries
-            × Writes entries self.old.notes self.new.notes) }
+            × WritesEntries entries self.old.notes self.new.notes) }
         ensures own { OnOk result (Accounts self.old self.new) }
         ensures rest { KeepsElse self.old self.new }
     {
@@ -267,7 +268,7 @@ impl<'s, C: Checkpoint, K: Lends<Roster> + Drop> Agent<'s, C, K> {
         awaited: Awaited,
     ) -> Result<(), OutOfMemory>
         ensures written { OnOk result ((entries : List LogEntry) × IsWaitLogged awaited entries
-            × Writes entries self.old.notes self.new.notes) }
+            × WritesEntries entries self.old.notes self.new.notes) }
         ensures own { OnOk result (Accounts self.old self.new) }
         ensures rest { KeepsButTurns self.old self.new }
     {

@@ -1,8 +1,8 @@
 //! How an agent ends: its loop is ended, and what was closed there is logged.
 
 ghost use Rattle.std.specs.Prelude.{◌≡◌, ◌≤◌, ◌+◌, ℕ, List, IfOk, OnOk};
-ghost use Rattle.hub_agent.specs.Entries.{AreEndings, Writes, ending_entries, log_and};
-ghost use Rattle.hub_agent.specs.Owning.{held_by, lost, times};
+ghost use Rattle.hub_agent.specs.Entries.{AreEndings, WritesEntries, ending_entries, log_and};
+ghost use Rattle.hub_agent.specs.Owning.{times_held, lost, times};
 ghost use Rattle.hub_trace.specs.declared.log_entry.LogEntry.{LogEntry};
 
 use crate::agent::AgentLoop;
@@ -20,7 +20,7 @@ use std::alloc::Global;
 use std::collections::{BTreeMap, BTreeSet};
 use std::sync::Wait;
 
-// Ends the loop. Where memory runs out it goes on once.
+/// Ends the loop. Where memory runs out it goes on once.
 fn end_loop<C: Checkpoint, K: Lends<Roster>, R: Wait>(
     rt: &R,
     shared: &Shared,
@@ -38,7 +38,7 @@ fn end_loop<C: Checkpoint, K: Lends<Roster>, R: Wait>(
     }
 }
 
-// Discards what waits at ends that were closed. Ports that are named there stay in flight.
+/// Discards what waits at ends that were closed. Ports that are named there stay in flight.
 fn sweep_all<R: Wait>(rt: &R, graves: Vec<Grave>) -> Result<(), OutOfMemory> {
     let mut swept = Ok(());
     for grave in graves {
@@ -49,7 +49,7 @@ fn sweep_all<R: Wait>(rt: &R, graves: Vec<Grave>) -> Result<(), OutOfMemory> {
     swept
 }
 
-// The notices that were put, by the ports that were closed.
+/// The notices that were put, by the ports that were closed.
 fn notices_of(
     alloc: Global,
     closed: &[ClosedPort],
@@ -67,7 +67,7 @@ fn notices_of(
     Ok(notices)
 }
 
-// The ends of the list, each once.
+/// The ends of the list, each once.
 fn set_of(alloc: Global, ends: &[EndId]) -> Result<BTreeSet<EndId>, OutOfMemory>
     ensures { IfOk result (λ set. (e : ℕ) → times e set.keys ≤ times e ends.now) }
 {
@@ -78,8 +78,8 @@ fn set_of(alloc: Global, ends: &[EndId]) -> Result<BTreeSet<EndId>, OutOfMemory>
     Ok(set)
 }
 
-// Logs what was closed when the loop ended: for each end that was swept the notice, where it was
-// put, and the closing, where the loop held the end; then the other notices.
+/// Logs what was closed when the loop ended: for each end that was swept the notice, where it was
+/// put, and the closing, where the loop held the end; then the other notices.
 fn log_ended(
     alloc: Global,
     scribe: &mut Scribe,
@@ -87,7 +87,7 @@ fn log_ended(
     ended: &Ended,
 ) -> Result<(), OutOfMemory>
     ensures written { OnOk result ((entries : List LogEntry) × AreEndings entries
-        × Writes entries scribe.old scribe.new) }
+        × WritesEntries entries scribe.old scribe.new) }
     ensures own { OnOk result ((e : ℕ) →
         lost e scribe.new.log.1 ≤ lost e scribe.old.log.1 + times e held.now) }
 {
@@ -105,14 +105,14 @@ fn log_ended(
     Ok(())
 }
 
-// Logs the notice of an end, where it was put, and the closing, where the loop held the end.
+/// Logs the notice of an end, where it was put, and the closing, where the loop held the end.
 fn log_closing(
     scribe: &mut Scribe,
     end: EndId,
     notice: Option<Posted>,
     is_held: bool,
 ) -> Result<(), OutOfMemory>
-    ensures { OnOk result (Writes (ending_entries end notice is_held) scribe.old scribe.new) }
+    ensures { OnOk result (WritesEntries (ending_entries end notice is_held) scribe.old scribe.new) }
 {
     if let Some(posted) = notice {
         log_notice(scribe, posted)?;
@@ -137,7 +137,7 @@ pub(crate) fn finish_loop<C: Checkpoint, K: Lends<Roster>, R: Wait>(
     ensures written { IfOk result (λ log. (entries : List LogEntry) × AreEndings entries
         × (log ≡ log_and scribe.log entries)) }
     ensures own { IfOk result (λ log. (e : ℕ) →
-        lost e log.1 ≤ lost e scribe.log.1 + held_by event_loop.entry.holding.held e) }
+        lost e log.1 ≤ lost e scribe.log.1 + times_held event_loop.entry.holding.held e) }
 {
     let held = event_loop.ends();
     let ended = end_loop(rt, shared, roster, event_loop);

@@ -9,7 +9,6 @@
 mod acting;
 mod actor;
 mod agent;
-mod casting;
 mod ending;
 mod logging;
 mod opening;

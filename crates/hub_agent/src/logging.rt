@@ -2,7 +2,7 @@
 
 ghost use Rattle.std.specs.Prelude.{◌∷◌, [], ℕ, OnOk};
 ghost use Rattle.hub_agent.specs.Entries.{
-  Writes,
+  WritesEntries,
   answer_entries,
   cast_entries,
   closed_entries,
@@ -20,14 +20,14 @@ use hub_loop::{ClosedPort, Held};
 use hub_ports::{Closing, Noticed, PortError};
 use hub_queue::Posted;
 
-// Logs a post that was accepted.
+/// Logs a post that was accepted.
 fn log_put(
     scribe: &mut Scribe,
     posted: Posted,
     ports: &[EndId],
     body: &Body,
 ) -> Result<(), OutOfMemory>
-    ensures { OnOk result (Writes (Put (message_at posted ports.now body.now) ∷ [])
+    ensures { OnOk result (WritesEntries (Put (message_at posted ports.now body.now) ∷ [])
         scribe.old scribe.new) }
 {
     scribe.put(posted, ports, body)
@@ -51,7 +51,7 @@ pub(crate) fn log_adopted(
     epoch: Option<u32>,
 ) -> Result<(), OutOfMemory>
     ensures { OnOk result ((epoch : ℕ)
-        × Writes (Adopted end epoch ∷ []) scribe.old scribe.new) }
+        × WritesEntries (Adopted end epoch ∷ []) scribe.old scribe.new) }
 {
     let Some(epoch) = epoch else {
         return Err(OutOfMemory);
@@ -61,21 +61,21 @@ pub(crate) fn log_adopted(
 
 /// Logs that an end was closed.
 pub(crate) fn log_close(scribe: &mut Scribe, end: EndId) -> Result<(), OutOfMemory>
-    ensures { OnOk result (Writes (Closed end ∷ []) scribe.old scribe.new) }
+    ensures { OnOk result (WritesEntries (Closed end ∷ []) scribe.old scribe.new) }
 {
     scribe.close(end)
 }
 
 /// Logs a notice that was put.
 pub(crate) fn log_notice(scribe: &mut Scribe, posted: Posted) -> Result<(), OutOfMemory>
-    ensures { OnOk result (Writes (Put (notice_at posted) ∷ []) scribe.old scribe.new) }
+    ensures { OnOk result (WritesEntries (Put (notice_at posted) ∷ []) scribe.old scribe.new) }
 {
     scribe.put_notice(posted)
 }
 
-// Logs the notice of a port that was closed, where it was put, and the closing.
+/// Logs the notice of a port that was closed, where it was put, and the closing.
 fn log_closed(scribe: &mut Scribe, end: EndId, noticed: Noticed) -> Result<(), OutOfMemory>
-    ensures { OnOk result (Writes (closing_entries end noticed) scribe.old scribe.new) }
+    ensures { OnOk result (WritesEntries (closing_entries end noticed) scribe.old scribe.new) }
 {
     match noticed {
         Noticed::Put(posted) => log_notice(scribe, posted)?,
@@ -91,7 +91,7 @@ pub(crate) fn log_closed_end(
     end: EndId,
     port: Option<ClosedPort>,
 ) -> Result<(), OutOfMemory>
-    ensures { OnOk result (Writes (closed_entries end port) scribe.old scribe.new) }
+    ensures { OnOk result (WritesEntries (closed_entries end port) scribe.old scribe.new) }
 {
     match port {
         Some(port) => log_closed(scribe, end, port.noticed),
@@ -99,9 +99,9 @@ pub(crate) fn log_closed_end(
     }
 }
 
-// Logs what became of the ports that a doomed post has closed.
+/// Logs what became of the ports that a doomed post has closed.
 fn log_doomed(scribe: &mut Scribe, closings: &[Closing]) -> Result<(), OutOfMemory>
-    ensures { OnOk result (Writes (doomed_entries closings.now) scribe.old scribe.new) }
+    ensures { OnOk result (WritesEntries (doomed_entries closings.now) scribe.old scribe.new) }
 {
     for closing in closings {
         log_closed(scribe, closing.end, closing.noticed)?;
@@ -117,7 +117,7 @@ pub(crate) fn log_answer(
     ports: &[EndId],
     body: &Body,
 ) -> Result<(), OutOfMemory>
-    ensures { OnOk result (Writes (answer_entries ports.now body.now answer.now)
+    ensures { OnOk result (WritesEntries (answer_entries ports.now body.now answer.now)
         scribe.old scribe.new) }
 {
     match answer {
@@ -134,7 +134,7 @@ pub(crate) fn log_cast(
     outcomes: &[(EndId, CastOutcome)],
     body: &Body,
 ) -> Result<(), OutOfMemory>
-    ensures { OnOk result (Writes (cast_entries body.now outcomes.now) scribe.old scribe.new) }
+    ensures { OnOk result (WritesEntries (cast_entries body.now outcomes.now) scribe.old scribe.new) }
 {
     let mut refused = Ok(());
     for (_, outcome) in outcomes {
@@ -146,9 +146,9 @@ pub(crate) fn log_cast(
     refused
 }
 
-// Logs a post of a cast, where it was accepted.
+/// Logs a post of a cast, where it was accepted.
 fn log_outcome(scribe: &mut Scribe, outcome: &CastOutcome, body: &Body) -> Result<(), OutOfMemory>
-    ensures { OnOk result (Writes (outcome_entries body.now outcome.now) scribe.old scribe.new) }
+    ensures { OnOk result (WritesEntries (outcome_entries body.now outcome.now) scribe.old scribe.new) }
 {
     match outcome {
         CastOutcome::Accepted(posted) => log_put(scribe, *posted, &[], body),

@@ -6,7 +6,7 @@ ghost use Rattle.hub_loop.specs.Looking.{HoldsNoLine};
 ghost use Rattle.hub_loop.specs.declared.held.Held.TheVariants.{Port as PortHeld};
 ghost use Rattle.hub_ports.specs.Seats.{PortSeat, ends_of};
 ghost use Rattle.hub_agent.specs.Agents.{CastsFrom, KeepsButCasts, KeepsButEnds, KeepsElse};
-ghost use Rattle.hub_agent.specs.Entries.{IsCastLogged, Writes};
+ghost use Rattle.hub_agent.specs.Entries.{IsCastLogged, WritesEntries};
 ghost use Rattle.hub_agent.specs.Owning.{Accounts};
 ghost use Rattle.hub_agent.specs.Posting.{
   HasLine,
@@ -18,33 +18,26 @@ ghost use Rattle.hub_agent.specs.Posting.{
   TakesOut,
   given_back,
 };
+ghost use Rattle.hub_agent.specs.Casting.{HasCast};
 ghost use Rattle.hub_trace.specs.declared.log_entry.LogEntry.{LogEntry};
 
 use crate::agent::{Agent, AgentLoop};
-use crate::casting::cast_and_log;
-use crate::logging::log_answer;
+use crate::logging::{log_answer, log_cast};
 use crate::shared::Shared;
-use hub_broadcast::Roster;
+use hub_broadcast::{CastError, Member, Roster, cast_in};
 use hub_clients::DirectoryError;
+use hub_depot::Depot;
 use hub_envelope::{AgentId, Body, EndId, OutOfMemory, Ports};
 use hub_locked::Lends;
-use hub_loop::{Checkpoint, Held, LoopError};
+use hub_logging::Scribe;
+use hub_loop::{Checkpoint, Held, LoopError, Way};
 use hub_ports::{Hub, Port, PortError};
-use hub_queue::{Grave, Posted};
+use hub_queue::{Grave, Onward, Posted};
 use std::alloc::Global;
 use std::sync::Wait;
 
-/// What a post goes over.
-#[derive(Clone, Copy)]
-pub(crate) enum Way {
-    /// The port of that number.
-    Port(EndId),
-    /// A line to the queue of that number.
-    Line(EndId),
-}
-
-// Posts over a port or a line that the loop holds. Where it holds none the post is answered as at
-// an end that is closed.
+/// Posts over a port or a line that the loop holds. Where it holds none the post is answered as at
+/// an end that is closed.
 #[inline(always)]
 fn post_over<C: Checkpoint, R: Wait>(
     event_loop: &mut AgentLoop<'_, C>,
@@ -60,19 +53,13 @@ fn post_over<C: Checkpoint, R: Wait>(
     ensures rest { event_loop.new
         ≡ record event_loop.old { holding = event_loop.new.holding } }
 {
-    match way {
-        Way::Port(port) => match event_loop.post(rt, hub, agent, port, body, ports) {
-            Ok(answer) => answer,
-            Err((body, ports)) => Err(PortError::Closed(body, ports)),
-        },
-        Way::Line(queue) => match event_loop.send(rt, hub, agent, queue, body, ports) {
-            Ok(answer) => answer,
-            Err((body, ports)) => Err(PortError::Closed(body, ports)),
-        },
+    match event_loop.post(rt, hub, agent, way, body, ports) {
+        Ok(answer) => answer,
+        Err((body, ports)) => Err(PortError::Closed(body, ports)),
     }
 }
 
-// The port that is held, or what else is.
+/// The port that is held, or what else is.
 fn port_in(held: Held) -> Result<Port, Held>
     ensures ok { IfOk result (λ port. held ≡ PortHeld port) }
     ensures err { IfErr result (λ back. (back ≡ held)
@@ -87,7 +74,7 @@ fn port_in(held: Held) -> Result<Port, Held>
     }
 }
 
-// The ports that come back with the answer to a post.
+/// The ports that come back with the answer to a post.
 fn ports_back(alloc: Global, answer: Result<Posted, PortError>) -> Vec<Port>
     ensures { result.items ≡ given_back answer }
 {
@@ -103,8 +90,8 @@ fn ports_back(alloc: Global, answer: Result<Posted, PortError>) -> Vec<Port>
     }
 }
 
-// Closes what can't be held for want of memory, so that it is swept with what was closed by
-// actions. A line is given back. No member of a roster comes here.
+/// Closes what can't be held for want of memory, so that it is swept with what was closed by
+/// actions. A line is given back. No member of a roster comes here.
 fn bury<R: Wait>(rt: &R, shared: &Shared, graves: &mut Vec<Grave>, held: Held) {
     match held.shut(rt, &shared.hub) {
         Ok(closed) => {
@@ -145,8 +132,8 @@ impl<'s, C: Checkpoint, K: Lends<Roster> + Drop> Agent<'s, C, K> {
         held
     }
 
-    // Takes the ports out of the loop, in order. `None` where one isn't held; then it holds again
-    // those that it took out.
+    /// Takes the ports out of the loop, in order. `None` where one isn't held; then it holds again
+    /// those that it took out.
     fn release_ports<R: Wait>(
         &mut self,
         rt: &R,
@@ -205,7 +192,7 @@ impl<'s, C: Checkpoint, K: Lends<Roster> + Drop> Agent<'s, C, K> {
         logged
     }
 
-    // Holds a line to a queue, unless it does. False where the directory lends none.
+    /// Holds a line to a queue, unless it does. False where the directory lends none.
     fn take_line<R: Wait>(&mut self, rt: &R, queue: EndId) -> Result<bool, OutOfMemory>
         ensures same { KeepsButEnds self.old self.new }
         ensures held { OnOk result (HasLine queue self.old.ends self.new.ends) }
@@ -251,7 +238,7 @@ impl<'s, C: Checkpoint, K: Lends<Roster> + Drop> Agent<'s, C, K> {
     ) -> Result<(), OutOfMemory>
         ensures written { OnOk result ((entries : List LogEntry)
             × IsCastLogged member body.now entries
-            × Writes entries self.old.notes self.new.notes) }
+            × WritesEntries entries self.old.notes self.new.notes) }
         ensures cast { OnOk result (CastsFrom member body.now self.old self.new) }
         ensures own { OnOk result (Accounts self.old self.new) }
         ensures rest { KeepsButCasts self.old self.new }
@@ -261,5 +248,28 @@ impl<'s, C: Checkpoint, K: Lends<Roster> + Drop> Agent<'s, C, K> {
         };
         let yard = &self.shared.hub.yard;
         cast_and_log(rt, &mut self.roster, yard, source, body, &mut self.scribe)
+    }
+}
+
+/// Casts from a member, and logs each post of the cast that was accepted.
+pub(crate) fn cast_and_log<K: Lends<Roster>, R: Wait>(
+    rt: &R,
+    roster: &mut K,
+    yard: &Depot<Onward>,
+    source: &Member,
+    body: &Body,
+    scribe: &mut Scribe,
+) -> Result<(), OutOfMemory>
+    ensures cast { OnOk result (HasCast (K.shown roster.old) (K.shown roster.new)
+        source.now body.now scribe.old scribe.new) }
+    ensures written { OnOk result ((entries : List LogEntry)
+        × IsCastLogged (record { 0 = source.now.taker.end }) body.now entries
+        × WritesEntries entries scribe.old scribe.new) }
+{
+    let copy = body.clone()?;
+    match cast_in(rt, roster, yard, source, copy, &[]) {
+        Ok(outcomes) => log_cast(scribe, &outcomes, body),
+        Err(CastError::OutOfMemory) => Err(OutOfMemory),
+        Err(CastError::InvalidState | CastError::NotTransferable) => Ok(()),
     }
 }

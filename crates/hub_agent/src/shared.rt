@@ -1,5 +1,5 @@
 ghost use Rattle.std.specs.Prelude.{◌≡◌};
-ghost use Rattle.hub_agent.specs.Agents.{ordered, woken};
+ghost use Rattle.hub_agent.specs.Agents.{peer_ordered, woken};
 
 use hub_clients::Directory;
 use hub_envelope::OutOfMemory;
@@ -56,7 +56,7 @@ pub struct Peer {
 impl Peer {
     /// Gives the agent the order to end, and wakes it.
     pub(crate) fn order(&mut self)
-        ensures { self.new ≡ ordered self.old }
+        ensures { self.new ≡ peer_ordered self.old }
     {
         self.order.give();
         self.bell.wake();

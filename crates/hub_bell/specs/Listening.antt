@@ -10,8 +10,8 @@ abbrev pub taking : ℕ → ℕ → ℕ → List BoardStep
 taking word found taken = Looked word found ∷ (if found == 0 then [] else Took word taken ∷ [])
 
 -- this was taken out of the word
-abbrev pub IsTaken : Done → Done → ℕ → ℕ → Type 0
-IsTaken old new word taken = (found : ℕ) × (new ≡ record old { steps = old.steps ++ taking word found taken }) × (found ≡ 0 → taken ≡ 0)
+abbrev pub IsSwappedOut : Done → Done → ℕ → ℕ → Type 0
+IsSwappedOut old new word taken = (found : ℕ) × (new ≡ record old { steps = old.steps ++ taking word found taken }) × (found ≡ 0 → taken ≡ 0)
 
 -- the listener said that it sleeps, and looked at the names of the words with set bits; it slept only where it found none, and said that it is awake
 abbrev pub HasSlept : Done → Done → Type 0

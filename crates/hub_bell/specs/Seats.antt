@@ -28,5 +28,5 @@ abbrev pub new_at : TableId → BoardSeat
 new_at board = record { board = board; at = silent }
 
 -- the seat at a board that has made these steps, and knows this of sleeping and waking
-abbrev pub seat_of : TableId → List BoardStep → WakeView → BoardSeat
-seat_of board steps view = record { board = board; at = record { steps = steps; sleeps = view.sleeps; wakes = view.wakes } }
+abbrev pub board_seat : TableId → List BoardStep → WakeView → BoardSeat
+board_seat board steps view = record { board = board; at = record { steps = steps; sleeps = view.sleeps; wakes = view.wakes } }

@@ -5,8 +5,8 @@ ghost use Rattle.std.specs.Arc.{arc_value};
 
 use crate::OutOfMemory;
 use crate::board::{
-    ASLEEP, Board, BoardSeat, BoardWords, FIRST_BITS, Fresh, Look, NAMES, SetBits, Store, Take,
-    WORDS, bits_word_of, end_mask_of, has_bit, name_mask_of,
+    ASLEEP, Board, BoardSeat, BoardWords, FIRST_BITS, Fresh, LoadWord, NAMES, SetBits, StoreWord,
+    TakeWord, WORDS, bits_word_of, end_mask_of, has_bit, name_mask_of,
 };
 use crossbeam_utils::rule::{Outcome, Protocol};
 use crossbeam_utils::sync::parker::{Pass, RuledParker, RuledUnparker};
@@ -26,11 +26,11 @@ pub struct Bell {
 impl Model for Bell {
     ghost use Rattle.std.specs.Prelude.{◌≡◌, []};
     ghost use Rattle.std.specs.Arc.{arc_value};
-    ghost use Rattle.hub_bell.specs.Seats.{BoardSeat, seat_of};
+    ghost use Rattle.hub_bell.specs.Seats.{BoardSeat, board_seat};
 
     ghost Value = { BoardSeat };
 
-    ghost view = { λ b. seat_of b.seat.table_id b.seat.me.0 b.pass.me.0 };
+    ghost view = { λ b. board_seat b.seat.table_id b.seat.me.0 b.pass.me.0 };
 
     ghost invariant = { λ b. (b.seat.table_id ≡ (arc_value b.board).words.shared.table_id)
         × (b.pass.table_id ≡ (arc_value (arc_value b.board).waker.state).shared.table_id) };
@@ -51,7 +51,7 @@ impl Bell {
         Bell { board, seat, pass }
     }
 
-    // Leaves a bit set, and answers whether it was clear.
+    /// Leaves a bit set, and answers whether it was clear.
     fn mark(&mut self, word: usize, mask: u64) -> bool
         requires { word < 1040 }
         ensures { (found : ℕ) × (result ≡ not (is_set found mask))
@@ -62,14 +62,14 @@ impl Bell {
             }) }
     {
         let words = &self.board.words.shared;
-        if has_bit(words.load::<Look>(&mut self.seat, word), mask) {
+        if has_bit(words.load::<LoadWord>(&mut self.seat, word), mask) {
             return false;
         }
         words.fetch_or::<SetBits>(&mut self.seat, word, mask);
         true
     }
 
-    // Whether the listener sleeps, or is about to.
+    /// Whether the listener sleeps, or is about to.
     fn finds_asleep(&mut self) -> bool
         ensures { (found : ℕ) × (result ≡ (found == 1))
             × (self.new ≡ record self.old {
@@ -78,7 +78,11 @@ impl Bell {
               };
             }) }
     {
-        self.board.words.shared.load::<Look>(&mut self.seat, ASLEEP) == 1
+        self.board
+            .words
+            .shared
+            .load::<LoadWord>(&mut self.seat, ASLEEP)
+            == 1
     }
 
     /// Tells the loop that something was posted at its end. Where the end's bit is set already this
@@ -131,9 +135,9 @@ pub struct WakeView {
 }
 
 /// Whoever sleeps or wakes counts for itself alone.
-pub struct Counted;
+pub struct OwnCounts;
 
-impl Protocol<bool, WakeView> for Counted {
+impl Protocol<bool, WakeView> for OwnCounts {
     ghost use Rattle.hub_bell.specs.Seats.{rested};
 
     ghost holds = { λ _ _. Unit {0} };
@@ -143,9 +147,9 @@ impl Protocol<bool, WakeView> for Counted {
 
 pub(crate) type WakePass = Pass<WakeView>;
 
-pub(crate) type Sleeper = RuledParker<WakeView, Counted>;
+pub(crate) type Sleeper = RuledParker<WakeView, OwnCounts>;
 
-pub(crate) type Waker = RuledUnparker<WakeView, Counted>;
+pub(crate) type Waker = RuledUnparker<WakeView, OwnCounts>;
 
 /// The listener has slept.
 pub(crate) struct Sleep;
@@ -184,11 +188,11 @@ pub struct Listener {
 impl Model for Listener {
     ghost use Rattle.std.specs.Prelude.{◌≡◌, []};
     ghost use Rattle.std.specs.Arc.{arc_value};
-    ghost use Rattle.hub_bell.specs.Seats.{BoardSeat, seat_of};
+    ghost use Rattle.hub_bell.specs.Seats.{BoardSeat, board_seat};
 
     ghost Value = { BoardSeat };
 
-    ghost view = { λ l. seat_of l.seat.table_id l.seat.me.0 l.pass.me.0 };
+    ghost view = { λ l. board_seat l.seat.table_id l.seat.me.0 l.pass.me.0 };
 
     ghost invariant = { λ l. (l.seat.table_id ≡ (arc_value l.board).words.shared.table_id)
         × (l.pass.table_id ≡ (arc_value l.sleeper.unparker.state).shared.table_id) };
@@ -198,7 +202,7 @@ impl Listener {
     ghost use Rattle.hub_bell.specs.declared.board.BoardStep.{BoardStep};
     ghost use Rattle.hub_bell.specs.Ready.{names_word};
     ghost use Rattle.hub_bell.specs.Seats.{new_at};
-    ghost use Rattle.hub_bell.specs.Listening.{HasSlept, IsTaken};
+    ghost use Rattle.hub_bell.specs.Listening.{HasSlept, IsSwappedOut};
 
     /// A listener, and the first of its bells. No bit is set.
     pub fn open(alloc: Global) -> Result<(Listener, Bell), OutOfMemory>
@@ -231,7 +235,7 @@ impl Listener {
     /// in the words from `16 * n` to `16 * n + 15` since the names were last taken out.
     pub fn take_names(&mut self) -> u64
         ensures { (self.new.board ≡ self.old.board)
-            × IsTaken self.old.at self.new.at names_word result }
+            × IsSwappedOut self.old.at self.new.at names_word result }
     {
         self.take(NAMES)
     }
@@ -241,22 +245,22 @@ impl Listener {
     pub fn take_bits(&mut self, word: usize) -> u64
         requires { word < 1024 }
         ensures { (self.new.board ≡ self.old.board)
-            × IsTaken self.old.at self.new.at (16 + word) result }
+            × IsSwappedOut self.old.at self.new.at (16 + word) result }
     {
         self.take(FIRST_BITS + word)
     }
 
-    // A load comes first, since mostly there is nothing to take out.
+    /// A load comes first, since mostly there is nothing to take out.
     fn take(&mut self, word: usize) -> u64
         requires { word < 1040 }
         ensures { (self.new.board ≡ self.old.board)
-            × IsTaken self.old.at self.new.at word result }
+            × IsSwappedOut self.old.at self.new.at word result }
     {
         let words = &self.board.words.shared;
-        if words.load::<Look>(&mut self.seat, word) == 0 {
+        if words.load::<LoadWord>(&mut self.seat, word) == 0 {
             return 0;
         }
-        words.swap::<Take>(&mut self.seat, word, 0)
+        words.swap::<TakeWord>(&mut self.seat, word, 0)
     }
 
     /// Sleeps until the loop is woken. It doesn't where an end was rung and its bit not taken out
@@ -265,10 +269,10 @@ impl Listener {
         ensures { (self.new.board ≡ self.old.board) × HasSlept self.old.at self.new.at }
     {
         let words = &self.board.words.shared;
-        words.store::<Store>(&mut self.seat, ASLEEP, 1);
-        if words.load::<Look>(&mut self.seat, NAMES) == 0 {
+        words.store::<StoreWord>(&mut self.seat, ASLEEP, 1);
+        if words.load::<LoadWord>(&mut self.seat, NAMES) == 0 {
             self.sleeper.park_as::<Sleep, R>(rt, &mut self.pass);
         }
-        words.store::<Store>(&mut self.seat, ASLEEP, 0);
+        words.store::<StoreWord>(&mut self.seat, ASLEEP, 0);
     }
 }

@@ -69,12 +69,12 @@ pub(crate) fn name_mask_of(end: EndId) -> u64
 
 /// The steps that a seat has made at a board, in order: a list of any length, since it stands in
 /// proofs alone.
-pub type Steps = [BoardStep; 0];
+pub type StepsMade = [BoardStep; 0];
 
-pub type BoardSeat = Seat<(), Steps>;
+pub type BoardSeat = Seat<(), StepsMade>;
 
 /// The words of a board, with no slot.
-pub type BoardWords = Table<(), Steps, (), BoardRule, Global>;
+pub type BoardWords = Table<(), StepsMade, (), BoardRule, Global>;
 
 /// The words and what wakes the listener.
 #[derive(Drop)]
@@ -87,7 +87,7 @@ pub(crate) struct Board {
 /// The words are hints, so nothing has to hold of them.
 pub struct BoardRule;
 
-impl TableRule<(), Steps, ()> for BoardRule {
+impl TableRule<(), StepsMade, ()> for BoardRule {
     ghost use Rattle.std.specs.Prelude.{[]};
 
     ghost holds = { λ _ _. Unit {0} };
@@ -98,16 +98,16 @@ impl TableRule<(), Steps, ()> for BoardRule {
 /// A new seat, which has done nothing.
 pub(crate) struct Fresh;
 
-impl Play<(), Steps> for Fresh {
+impl Play<(), StepsMade> for Fresh {
     ghost use Rattle.std.specs.Prelude.{◌≡◌, []};
 
     ghost then = { λ _ _ _ after. after.0 ≡ [] };
 }
 
 /// A word is loaded.
-pub(crate) struct Look;
+pub(crate) struct LoadWord;
 
-impl Play<(), Steps> for Look {
+impl Play<(), StepsMade> for LoadWord {
     ghost use Rattle.hub_bell.specs.BoardSteps.{Looks};
 
     ghost then = { Looks };
@@ -116,25 +116,25 @@ impl Play<(), Steps> for Look {
 /// Bits of a word are set.
 pub(crate) struct SetBits;
 
-impl Play<(), Steps> for SetBits {
+impl Play<(), StepsMade> for SetBits {
     ghost use Rattle.hub_bell.specs.BoardSteps.{Sets};
 
     ghost then = { Sets };
 }
 
 /// What a word has is taken out.
-pub(crate) struct Take;
+pub(crate) struct TakeWord;
 
-impl Play<(), Steps> for Take {
+impl Play<(), StepsMade> for TakeWord {
     ghost use Rattle.hub_bell.specs.BoardSteps.{Takes};
 
     ghost then = { Takes };
 }
 
 /// A word is stored.
-pub(crate) struct Store;
+pub(crate) struct StoreWord;
 
-impl Play<(), Steps> for Store {
+impl Play<(), StepsMade> for StoreWord {
     ghost use Rattle.hub_bell.specs.BoardSteps.{Stores};
 
     ghost then = { Stores };

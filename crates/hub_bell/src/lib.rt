@@ -11,4 +11,4 @@ mod bell;
 mod board;
 
 pub use bell::{Bell, Listener};
-pub use std::alloc::AllocError as OutOfMemory;
+pub use hub_envelope::OutOfMemory;

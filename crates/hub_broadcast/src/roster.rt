@@ -100,7 +100,7 @@ impl Roster {
         })
     }
 
-    // Whether all members' ends have lower numbers. The last one's is the highest.
+    /// Whether all members' ends have lower numbers. The last one's is the highest.
     fn is_below(&self, end: EndId) -> bool
         ensures { MatchBool result (All (λ s. s.poster.name.end.0 < end.0) self.now)
             (Any (λ s. end.0 ≤ s.poster.name.end.0) self.now) }

@@ -5,20 +5,20 @@ use Rattle.hub_steps.specs.declared.session.Reply.{Reply}
 use Rattle.hub_steps.specs.declared.session.Reply.TheVariants as reply
 use Rattle.hub_steps.specs.declared.session.Session.{Session}
 use Rattle.hub_steps.specs.Session as session
-use Rattle.hub_steps.specs.Session.{AreTurns, GoesOn, HasRun, RunsOn, Turn, told}
+use Rattle.hub_steps.specs.Session.{AreTurns, GoesOnFrom, HasRun, RunsOn, Turn, told}
 use Rattle.hub_steps.specs.Steps.{steps_from}
 use Rattle.hub_steps.specs.StepText.{IsStepText}
 use Rattle.hub_steps.proofs.Sessions.{said_is_the_text}
-use Rattle.hub_c.specs.Calls.{AreCalls, Call, IsCall, SaidIsTheText, all_said, texts_run}
-use Rattle.hub_c.specs.Held.{Both, Held}
+use Rattle.hub_c.specs.Calls.{AreCalls, Call, IsCall, CallsSayTheText, said_in_calls, lines_of_calls}
+use Rattle.hub_c.specs.Held.{BothHeld, HeldSession}
 use Rattle.hub_c.specs.Line.{BadLine, NoMemoryLine, NoRoomLine, RanLine}
 
 -- the turns of these calls, from a session on
 record AreAlso (s : Session) (cs : List Call) : Type 0 where
   turns : List Turn
   are : AreTurns s turns
-  texts : session.texts_run turns ≡ texts_run cs
-  said : session.all_said turns ≡ all_said cs
+  texts : session.texts_run turns ≡ lines_of_calls cs
+  said : session.all_said turns ≡ said_in_calls cs
 
 -- a call that has run its text line, before the others
 runs_first : (s t : Session) (r : Reply) (c : Call) (cs : List Call) → c.after ≡ Some t → session.was_run r ≡ true → (c.answer == 0 || c.answer == 4) ≡ true → session.Makes r s t c.bytes → AreAlso t cs → AreAlso s (c ∷ cs)
@@ -49,7 +49,7 @@ isnt_run n (inl e) = rw e refl
 isnt_run n (inr e) = rw e refl
 
 -- a hub that is called has a session, and still has one
-both_held : (P : Session → Session → Type 0) (s : Session) (k : Held) → Both P (Some s) k → (t : Session) × (k ≡ Some t) × P s t
+both_held : (P : Session → Session → Type 0) (s : Session) (k : HeldSession) → BothHeld P (Some s) k → (t : Session) × (k ≡ Some t) × P s t
 both_held P s None both = absurd both
 both_held P s (Some t) both = (t, refl, both)
 
@@ -71,7 +71,7 @@ are_turns : (s : Session) (cs : List Call) → AreCalls (Some s) cs → AreAlso 
 are_turns s [] calls = record { turns = []; are = tt; texts = refl; said = refl }
 are_turns s (c ∷ cs) calls = one_call s c cs calls.0 (λ t held. are_turns t cs (subst (λ h. AreCalls h cs) held calls.1))
 
-pub said_is_text : SaidIsTheText
+pub said_is_text : CallsSayTheText
 said_is_text None cs fresh calls = absurd fresh
 said_is_text (Some s) cs fresh calls =
     let also = are_turns s cs calls in

@@ -1,7 +1,7 @@
 -- What becomes of a session at a text line, by the status that is answered.
 use Rattle.std.specs.Prelude.{◌≡◌, ◌⊎◌, ◌||◌, ◌==◌, ℕ, Bool, true, false, List}
 use Rattle.hub_steps.specs.declared.session.Session.{Session}
-use Rattle.hub_steps.specs.Session.{GoesOn, IsKindOf, RunsOn, Stays, TakesMemory, TakesMore, is_told, told}
+use Rattle.hub_steps.specs.Session.{GoesOnFrom, IsKindOf, RunsOn, Stays, TakesMemory, TakesMore, is_told, told}
 
 -- the step line was run after those before
 abbrev pub RanLine : Session → Session → List ℕ → Type 0
@@ -9,7 +9,7 @@ RanLine s t bytes = RunsOn s t bytes × (t.is_lost ≡ false)
 
 -- the text line is no step line, which was told, and nothing was run
 abbrev pub BadLine : Session → Session → List ℕ → Type 0
-BadLine s t bytes = IsKindOf bytes (told t) × GoesOn s t × (t.is_lost ≡ false)
+BadLine s t bytes = IsKindOf bytes (told t) × GoesOnFrom s t × (t.is_lost ≡ false)
 
 -- nothing was changed, at a line whose reading or whose steps take memory
 abbrev pub NoMemoryLine : Session → Session → List ℕ → Type 0

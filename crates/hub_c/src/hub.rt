@@ -1,15 +1,15 @@
 //! The hub's machine, one step line after the other.
 
 ghost use Rattle.std.specs.Prelude.{◌≡◌, ◌⊎◌, Some, None, true, false};
+ghost use Rattle.hub_steps.specs.Session.{told};
 ghost use Rattle.hub_c.specs.Fills.{Fills};
-ghost use Rattle.hub_c.specs.Held.{Both, IsNew, is_held, is_lost_in, is_told_in};
+ghost use Rattle.hub_c.specs.Held.{BothHeld, IsNewSession, has_session, is_lost_in, is_told_in};
 ghost use Rattle.hub_c.specs.Line.{BadLine, LostLine, NoMemoryLine, NoRoomLine, RanLine, SaysAgain};
 ghost use Rattle.hub_c.specs.Line.{says_something};
-ghost use Rattle.hub_steps.specs.Session.{told};
+ghost use Rattle.hub_c.specs.Calls.{CallsSayTheText};
 
 use crate::line::{give_line, say_again};
-use crate::parts::Parts;
-use crate::slot::Slot;
+use crate::slot::{Parts, SessionSlot};
 use crate::status::{DONE, NO_MEMORY, WRONG_STATE};
 use hub_steps::Session;
 use std::alloc::Global;
@@ -17,13 +17,13 @@ use std::mem;
 
 /// A hub that a C program holds. All bytes zero are a closed one.
 #[repr(C)]
-pub struct Hub {
-    slot: Slot,
+pub struct HubHandle {
+    slot: SessionSlot,
     is_open: bool,
-    ghost tells: { is_open ≡ is_held slot.held },
+    ghost tells: { is_open ≡ has_session slot.held },
 }
 
-impl Drop for Hub {
+impl Drop for HubHandle {
     fn drop(self) {
         let Self { slot, is_open } = self;
         if is_open {
@@ -32,21 +32,21 @@ impl Drop for Hub {
     }
 }
 
-impl Hub {
-    fn closed(alloc: Global) -> Hub
+impl HubHandle {
+    fn closed(alloc: Global) -> HubHandle
         ensures { result.slot.held ≡ None }
     {
-        Hub {
-            slot: Slot::none(alloc),
+        HubHandle {
+            slot: SessionSlot::none(alloc),
             is_open: false,
         }
     }
 
-    fn open(session: Box<Session>) -> Hub
+    fn open(session: Box<Session>) -> HubHandle
         ensures { result.slot.held ≡ Some session.value }
     {
-        Hub {
-            slot: Slot::of(Parts::of(session)),
+        HubHandle {
+            slot: SessionSlot::of(Parts::of(session)),
             is_open: true,
         }
     }
@@ -63,8 +63,8 @@ impl Hub {
 
 /// Opens a closed hub, with no agent and no end.
 #[unsafe(no_mangle)]
-pub extern "C" fn varukoni_open(alloc: Global, hub: &mut Hub) -> u8
-    ensures opened { result ≡ 0 → IsNew hub.new.slot.held }
+pub extern "C" fn varukoni_open(alloc: Global, hub: &mut HubHandle) -> u8
+    ensures opened { result ≡ 0 → IsNewSession hub.new.slot.held }
     ensures no_memory { result ≡ 3 → hub.new ≡ hub.old }
     ensures open_already { hub.old.is_open ≡ true → (result ≡ 5) × (hub.new ≡ hub.old) }
     ensures closed { result ≡ 5 → hub.old.is_open ≡ true }
@@ -75,7 +75,7 @@ pub extern "C" fn varukoni_open(alloc: Global, hub: &mut Hub) -> u8
     }
     match Box::new(alloc, Session::new(alloc)) {
         Ok(session) => {
-            *hub = Hub::open(session);
+            *hub = HubHandle::open(session);
             DONE
         }
         Err(_) => NO_MEMORY,
@@ -84,11 +84,11 @@ pub extern "C" fn varukoni_open(alloc: Global, hub: &mut Hub) -> u8
 
 /// Closes a hub, and frees its memory. A closed one stays closed.
 #[unsafe(no_mangle)]
-pub extern "C" fn varukoni_close(alloc: Global, hub: &mut Hub)
+pub extern "C" fn varukoni_close(alloc: Global, hub: &mut HubHandle)
     ensures closed { hub.new.slot.held ≡ None }
     ensures told { hub.new.is_open ≡ false }
 {
-    *hub = Hub::closed(alloc);
+    *hub = HubHandle::closed(alloc);
 }
 
 /// Runs a step line, which comes without its LF, and puts its outcome line, with its LF, into the
@@ -97,20 +97,20 @@ pub extern "C" fn varukoni_close(alloc: Global, hub: &mut Hub)
 #[unsafe(no_mangle)]
 pub extern "C" fn varukoni_line(
     alloc: Global,
-    hub: &mut Hub,
+    hub: &mut HubHandle,
     line: &[u8],
     room: &mut [u8],
     length: &mut usize,
 ) -> u8
-    ensures ran { result ≡ 0 → Both (λ s t. RanLine s t line.now
+    ensures ran { result ≡ 0 → BothHeld (λ s t. RanLine s t line.now
         × Fills room.old room.new length.new (told t)) hub.old.slot.held hub.new.slot.held }
-    ensures bad { result ≡ 2 → Both (λ s t. BadLine s t line.now
+    ensures bad { result ≡ 2 → BothHeld (λ s t. BadLine s t line.now
         × Fills room.old room.new length.new (told t)) hub.old.slot.held hub.new.slot.held }
-    ensures no_memory { result ≡ 3 → Both (λ s t. NoMemoryLine s t line.now)
+    ensures no_memory { result ≡ 3 → BothHeld (λ s t. NoMemoryLine s t line.now)
         hub.old.slot.held hub.new.slot.held }
-    ensures no_room { result ≡ 4 → Both (λ s t. NoRoomLine s t line.now)
+    ensures no_room { result ≡ 4 → BothHeld (λ s t. NoRoomLine s t line.now)
         hub.old.slot.held hub.new.slot.held }
-    ensures lost { result ≡ 6 → Both (λ s t. LostLine s t line.now)
+    ensures lost { result ≡ 6 → BothHeld (λ s t. LostLine s t line.now)
         hub.old.slot.held hub.new.slot.held }
     ensures stays_lost { is_lost_in hub.old.slot.held ≡ true
         → (result ≡ 6) × (hub.new.slot.held ≡ hub.old.slot.held) }
@@ -122,9 +122,9 @@ pub extern "C" fn varukoni_line(
     if !hub.is_open {
         return WRONG_STATE;
     }
-    let mut session = mem::replace(hub, Hub::closed(alloc)).into_session();
+    let mut session = mem::replace(hub, HubHandle::closed(alloc)).into_session();
     let status = give_line(alloc, &mut session, line, room, length);
-    *hub = Hub::open(session);
+    *hub = HubHandle::open(session);
     status
 }
 
@@ -133,13 +133,13 @@ pub extern "C" fn varukoni_line(
 #[unsafe(no_mangle)]
 pub extern "C" fn varukoni_said(
     alloc: Global,
-    hub: &mut Hub,
+    hub: &mut HubHandle,
     room: &mut [u8],
     length: &mut usize,
 ) -> u8
-    ensures said { result ≡ 0 → Both (λ s t. SaysAgain s t
+    ensures said { result ≡ 0 → BothHeld (λ s t. SaysAgain s t
         × Fills room.old room.new length.new (told s)) hub.old.slot.held hub.new.slot.held }
-    ensures no_memory { result ≡ 3 → Both SaysAgain hub.old.slot.held hub.new.slot.held
+    ensures no_memory { result ≡ 3 → BothHeld SaysAgain hub.old.slot.held hub.new.slot.held
         × (is_told_in hub.old.slot.held ≡ false) }
     ensures closed { hub.old.is_open ≡ false → (result ≡ 5) × (hub.new ≡ hub.old) }
     ensures statuses { (result ≡ 0) ⊎ ((result ≡ 3) ⊎ (hub.old.is_open ≡ false)) }
@@ -149,8 +149,29 @@ pub extern "C" fn varukoni_said(
     if !hub.is_open {
         return WRONG_STATE;
     }
-    let mut session = mem::replace(hub, Hub::closed(alloc)).into_session();
+    let mut session = mem::replace(hub, HubHandle::closed(alloc)).into_session();
     let status = say_again(&mut session, room, length);
-    *hub = Hub::open(session);
+    *hub = HubHandle::open(session);
     status
 }
+
+/// A session in its box, which may be sent to another thread. Nothing calls it: that it is accepted
+/// shows that a session is `Send`.
+fn sent_session(session: Box<Session>) -> Box<Session>
+    ensures { result ≡ session }
+{
+    sent(session)
+}
+
+fn sent<T: Send>(value: T) -> T
+    ensures { result ≡ value }
+{
+    value
+}
+
+/// What `varukoni_line` puts into the rooms of a hub, joined, is the one text of the step lines
+/// that it has run, which `varukoni_steps` and the program write of an input that has them. The
+/// function does nothing; the law is its contract.
+pub fn call_laws()
+    ensures { CallsSayTheText }
+{}

@@ -3,15 +3,11 @@
 //! passed but the hub's own memory.
 #![tactic(auto)]
 
-mod filling;
 mod hub;
-mod laws;
 mod line;
-mod parts;
 mod script;
-mod sending;
 mod slot;
 mod status;
 mod texts;
 
-pub use laws::call_laws;
+pub use hub::call_laws;

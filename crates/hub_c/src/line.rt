@@ -6,8 +6,8 @@ ghost use Rattle.hub_c.specs.Fills.{Fills};
 ghost use Rattle.hub_c.specs.Line.{BadLine, IsStatus, LostLine, NoMemoryLine, NoRoomLine, RanLine};
 ghost use Rattle.hub_c.specs.Line.{SaysAgain, says_something};
 
-use crate::filling::fill;
 use crate::status::{BAD, DONE, LOST, NO_MEMORY, NO_ROOM};
+use crate::texts::fill;
 use hub_steps::{Reply, Session};
 use std::alloc::Global;
 

@@ -1,13 +1,13 @@
 //! Scripts, read and not run.
 
-ghost use Rattle.std.specs.Prelude.{◌≡◌, option_map};
+ghost use Rattle.std.specs.Prelude.{◌≡◌};
 ghost use Rattle.hub_engine.specs.Counted.{inner_writer};
 ghost use Rattle.hub_engine.specs.Engine.{Writes};
-ghost use Rattle.hub_c.specs.Answers.{AnswersScript, IsScriptAnswer, script_kind_text};
+ghost use Rattle.hub_c.specs.Answers.{AnswersScript, IsScriptVerdict};
 
 use crate::texts::put_text;
 use hub_engine::{CountedWriter, Device, ExitStatus, end_unread};
-use hub_script::{Script, ScriptError};
+use hub_script::Script;
 use std::alloc::Global;
 use std::io::Write;
 
@@ -34,21 +34,11 @@ fn read_script<W: Write>(
     input: &[u8],
     writer: &mut CountedWriter<W>,
 ) -> Result<ExitStatus, Device>
-    ensures { Writes (IsScriptAnswer input.now) (W.contents (inner_writer writer.old))
+    ensures { Writes (IsScriptVerdict input.now) (W.contents (inner_writer writer.old))
         (W.contents (inner_writer writer.new)) result }
 {
     match Script::read(alloc, input) {
         Ok(_script) => Ok(ExitStatus::Success),
-        Err((line, error)) => end_unread(alloc, writer, line, name_of(error)),
-    }
-}
-
-/// The name by which the kind of a bad line is told. `None` where memory ran out.
-fn name_of(error: ScriptError) -> Option<&'static str>
-    ensures { option_map (λ name. name.now) result ≡ script_kind_text error }
-{
-    match error {
-        ScriptError::OutOfMemory => None,
-        bad => Some(bad.name()),
+        Err((line, error)) => end_unread(alloc, writer, line, error.kind()),
     }
 }

@@ -5,7 +5,6 @@ ghost use Rattle.hub_engine.specs.Status.{status_number};
 ghost use Rattle.hub_c.specs.Answers.{AnswersCheck, AnswersSteps};
 ghost use Rattle.hub_c.specs.Fills.{Fills};
 
-use crate::filling::fill;
 use crate::status::NO_ROOM;
 use hub_check::run_check;
 use hub_engine::{CountedReader, CountedWriter, Device, ExitStatus};
@@ -67,4 +66,14 @@ pub fn put_text(
         }
         Err(Device) => NO_ROOM,
     }
+}
+
+/// Puts the front of a text into the room for it, as far as there is room, and tells how long the
+/// whole text is.
+pub fn fill(text: &[u8], room: &mut [u8], length: &mut usize)
+    ensures { Fills room.old room.new length.new text.now }
+{
+    let count = text.len().min(room.len());
+    room[..count].copy_from_slice(&text[..count]);
+    *length = text.len();
 }

@@ -2,8 +2,8 @@
 use Rattle.std.specs.Prelude.{◌≡◌, List, [], ◌∷◌, ◌++◌}
 use Rattle.hub_line.specs.Ends.{posted, taken, IsLine, SamePoster, SameTaker}
 use Rattle.hub_channel.specs.declared.port.ChannelPort.{ChannelPort}
-use Rattle.hub_channel.specs.declared.taken.PortTaken.{PortTaken}
-use Rattle.hub_channel.specs.declared.taken.PortTaken.TheVariants.{Message, Empty, Ended, Disabled}
+use Rattle.hub_channel.specs.declared.port.PortTaken.{PortTaken}
+use Rattle.hub_channel.specs.declared.port.PortTaken.TheVariants.{Message, Empty, Ended, Disabled}
 
 module _ {M : Type 0} where
   -- all that was posted at the peer, in order

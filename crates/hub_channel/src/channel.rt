@@ -2,8 +2,7 @@
 ghost use Rattle.std.specs.Prelude.{◌≡◌, [], false, IfOk};
 ghost use Rattle.hub_channel.specs.Ports.{sent, got, ArePeers};
 
-use crate::port::ChannelPort;
-use crate::token::NO_TOKEN;
+use crate::port::{ChannelPort, NO_TOKEN};
 use hub_line::{LinePoster, LineTaker, OutOfMemory, open_line};
 use std::alloc::Global;
 use std::sync::Arc;

@@ -16,11 +16,7 @@
 
 mod channel;
 mod port;
-mod taken;
-mod token;
 
 pub use channel::open_channel;
 pub use hub_line::{LineGrave, LineTaken, NotPosted, OutOfMemory};
-pub use port::{Armed, ChannelPort, ClosedPort};
-pub use taken::PortTaken;
-pub use token::{NO_TOKEN, take_token};
+pub use port::{Armed, ChannelPort, NO_TOKEN, PortGrave, PortTaken, take_token};

@@ -1,9 +1,10 @@
-//! One of the two ports of a channel.
-use crate::taken::PortTaken;
-use crate::token::take_token;
+//! One of the two ports of a channel, with the token by which it says whom to wake.
 use hub_line::{LineGrave, LinePoster, LineTaken, LineTaker, NotPosted};
 use std::sync::Arc;
 use std::sync::atomic::{AtomicU64, Ordering};
+
+/// No token: nobody is to be woken.
+pub const NO_TOKEN: u64 = 0;
 
 /// One of the two ports of a channel, for messages of one type.
 #[derive(Drop)]
@@ -28,13 +29,25 @@ pub struct Armed {
 
 /// What is left of a port once it is closed.
 #[derive(Drop)]
-pub struct ClosedPort<M> {
+pub struct PortGrave<M> {
     /// It hands back what was posted at the port and not taken.
     pub grave: LineGrave<M>,
     /// The token that the port had, or 0.
     pub token: u64,
     /// Whom to wake for the peer, or 0.
     pub wake: u64,
+}
+
+/// What a take at a port comes to.
+#[derive(Drop)]
+pub enum PortTaken<M> {
+    Message(M),
+    /// Nothing is left of what was posted.
+    Empty,
+    /// Nothing is left, and nothing more will come: the peer is closed.
+    Ended,
+    /// The port isn't started.
+    Disabled,
 }
 
 impl<M: Drop> ChannelPort<M> {
@@ -44,8 +57,8 @@ impl<M: Drop> ChannelPort<M> {
     ghost use Rattle.hub_line.specs.declared.poster.NotPosted.TheVariants.{Closed};
     ghost use Rattle.hub_channel.specs.Ports.{got, sent, Brought, NothingGot, NothingSent};
     ghost use Rattle.hub_channel.specs.Ports.{SameEnds};
-    ghost use Rattle.hub_channel.specs.declared.taken.PortTaken.TheVariants.{Empty, Ended};
-    ghost use Rattle.hub_channel.specs.declared.taken.PortTaken.TheVariants.{Disabled};
+    ghost use Rattle.hub_channel.specs.declared.port.PortTaken.TheVariants.{Empty, Ended};
+    ghost use Rattle.hub_channel.specs.declared.port.PortTaken.TheVariants.{Disabled};
 
     /// The number by which the host has named the channel: its two ports have the same.
     pub fn name(&self) -> u64
@@ -133,7 +146,7 @@ impl<M: Drop> ChannelPort<M> {
 
     /// Closes the port. The peer is told behind all that was posted there, and its posts are
     /// refused from its next call on. What it has posted until then is handed back by the grave.
-    pub fn close(self) -> ClosedPort<M>
+    pub fn close(self) -> PortGrave<M>
         ensures grave { (taken result.grave.taker ≡ got self)
             × SameTaker self.from result.grave.taker }
     {
@@ -147,10 +160,19 @@ impl<M: Drop> ChannelPort<M> {
         } = self;
         let grave = from.close();
         drop(to);
-        ClosedPort {
+        PortGrave {
             grave,
             token: take_token(&here),
             wake: take_token(&there),
         }
     }
+}
+
+/// Takes the token out of a word. A word with none is only loaded.
+#[inline]
+pub fn take_token(word: &AtomicU64) -> u64 {
+    if word.load(Ordering::SeqCst) == NO_TOKEN {
+        return NO_TOKEN;
+    }
+    word.swap(NO_TOKEN, Ordering::SeqCst)
 }

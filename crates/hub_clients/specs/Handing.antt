@@ -36,13 +36,13 @@ abbrev pub Waiting : Type 0
 Waiting = map.FinMap key_cmp Handed
 
 -- the name under which the queue waits
-abbrev pub name_of : Handed → Key
-name_of h = handed_name (taker_of h.queue).end h.to
+abbrev pub waiting_name : Handed → Key
+waiting_name h = handed_name (taker_of h.queue).end h.to
 
 -- so many queues were taken out of what waits, one after another, and the end of each was closed
 abbrev pub ClosesTo : Waiting → Waiting → List GraveSeat → Type 0
 ClosesTo waiting now [] = now ≡ waiting
-ClosesTo waiting now (g ∷ gs) = (h : Handed) × (map.get waiting (name_of h) ≡ Some h) × IsClosed (taker_of h.queue) g × ClosesTo (map.remove waiting (name_of h)) now gs
+ClosesTo waiting now (g ∷ gs) = (h : Handed) × (map.get waiting (waiting_name h) ≡ Some h) × IsClosed (taker_of h.queue) g × ClosesTo (map.remove waiting (waiting_name h)) now gs
 
 -- whoever is told was told of each, of which these still wait
 abbrev pub AreToldClosed : Waiting → Waiting → List GraveSeat → Option (List GraveSeat) → Type 0

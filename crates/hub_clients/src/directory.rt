@@ -8,7 +8,7 @@ ghost use Rattle.hub_clients.specs.Handing.{taker_of};
 
 use crate::error::{DirectoryError, HandError, QueueError};
 use crate::handed::{Handed, HandedQueue, close_all, fetch_from, keep_on};
-use crate::listing::{Listed, Listing};
+use crate::listing::{Listed, QueueList};
 use crate::queue::{ClientQueue, Queue, WorkerQueue};
 use hub_depot::Depot;
 use hub_envelope::{AgentId, EndId, MAX_LINES};
@@ -20,7 +20,7 @@ use std::sync::Wait;
 /// A queue of the next number, which is listed with all its lines at home. All that can be refused
 /// but the place in the listing is made before that is asked for, and the number is used up last.
 /// After an error nothing more is listed.
-pub fn open_in<L: Lends<Listing>, R: Wait>(
+pub fn open_in<L: Lends<QueueList>, R: Wait>(
     rt: &R,
     alloc: Global,
     lender: &mut L,
@@ -49,7 +49,7 @@ pub fn open_in<L: Lends<Listing>, R: Wait>(
 /// Where agents find the queues of clients and workers, and where a queue waits that goes from one
 /// agent to another. Threads share it.
 ///
-/// `line_to` and `give_back` are the calls of that name on the `Listing` behind the lock, under one
+/// `line_to` and `give_back` are the calls of that name on the `QueueList` behind the lock, under one
 /// taking of the lock. What is listed at that moment no contract of these calls can say, since
 /// another thread may act between any two of them.
 ///
@@ -62,7 +62,7 @@ pub fn open_in<L: Lends<Listing>, R: Wait>(
 #[derive(Drop)]
 pub struct Directory {
     alloc: Global,
-    listing: Locked<Listing>,
+    listing: Locked<QueueList>,
     handed: Depot<Handed>,
 }
 
@@ -71,12 +71,12 @@ impl Directory {
     pub fn new(alloc: Global) -> Directory {
         Directory {
             alloc,
-            listing: Locked::new(Listing::new(alloc)),
+            listing: Locked::new(QueueList::new(alloc)),
             handed: Depot::new(alloc),
         }
     }
 
-    // A queue of the next number, which is listed under the lock.
+    /// A queue of the next number, which is listed under the lock.
     fn open<R: Wait>(&self, rt: &R, ends: &mut Ends, bell: Bell) -> Result<Taker, QueueError>
         ensures queue { IfOk result (IsNewClientQueue ends.old.drawn) }
         ensures drawn { OnOk result (ends.new.drawn ≡ ends.old.drawn + 1) }
@@ -125,7 +125,7 @@ impl Directory {
         Ok(Queue::of(taker))
     }
 
-    /// Lends a line to an end, the least that is at home: `Listing::line_to` under the lock. The
+    /// Lends a line to an end, the least that is at home: `QueueList::line_to` under the lock. The
     /// poster is the line's only one, so nobody else can post over it until it is given back. What
     /// the line has put goes on from the agent that had it before.
     ///
@@ -137,7 +137,7 @@ impl Directory {
         self.listing.lock(rt).line_to(end)
     }
 
-    /// Takes a line back: `Listing::give_back` under the lock. The poster comes back where no
+    /// Takes a line back: `QueueList::give_back` under the lock. The poster comes back where no
     /// listed queue has that line out. It takes no memory.
     pub fn give_back<R: Wait>(&self, rt: &R, poster: Poster) -> Result<(), Poster>
         ensures { IfErr result (λ back. back ≡ poster) }

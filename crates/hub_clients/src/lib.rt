@@ -15,5 +15,5 @@ mod queue;
 pub use directory::{Directory, open_in};
 pub use error::{DirectoryError, HandError, QueueError};
 pub use handed::{Handed, HandedQueue, close_all, fetch_from, keep_on};
-pub use listing::{Listed, Listing};
-pub use queue::{Client, ClientQueue, Kind, Queue, Worker, WorkerQueue};
+pub use listing::{Listed, QueueList};
+pub use queue::{Client, ClientQueue, Queue, QueueKind, Worker, WorkerQueue};

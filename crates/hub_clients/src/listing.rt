@@ -28,7 +28,7 @@ impl Model for Listed {
     ghost invariant = { λ l. IsInPlace (record { end = l.end; lines = l.lines.items }) };
 }
 
-// The first line whose poster is at home.
+/// The first line whose poster is at home.
 fn first_at_home(lines: &[Option<Poster>]) -> Option<usize>
     ensures { result ≡ position is_some lines.now }
 {
@@ -85,11 +85,11 @@ impl Listed {
 ///
 /// A poster is lent by being taken out of its line, so nobody else can have it until it comes back.
 #[derive(Drop)]
-pub struct Listing {
+pub struct QueueList {
     queues: Vec<Listed>,
 }
 
-impl Model for Listing {
+impl Model for QueueList {
     ghost use Rattle.std.specs.Prelude.{List};
     ghost use Rattle.hub_clients.specs.Listings.{ListedSeat, IsInOrder};
 
@@ -100,7 +100,7 @@ impl Model for Listing {
     ghost invariant = { λ l. IsInOrder l.queues.items };
 }
 
-// Where the first queue of that number is listed.
+/// Where the first queue of that number is listed.
 fn place_of(queues: &[Listed], end: EndId) -> Option<usize>
     requires { IsInOrder queues.now }
     ensures { IsPlaceOf queues.now end result }
@@ -114,7 +114,7 @@ fn place_of(queues: &[Listed], end: EndId) -> Option<usize>
     }
 }
 
-// Where a queue of that number is to be listed.
+/// Where a queue of that number is to be listed.
 fn place_behind(queues: &[Listed], end: EndId) -> usize
     requires { IsInOrder queues.now }
     ensures { IsPlaceBehind queues.now end result }
@@ -122,12 +122,12 @@ fn place_behind(queues: &[Listed], end: EndId) -> usize
     queues.partition_point(|queue| queue.end().0 <= end.0)
 }
 
-impl Listing {
+impl QueueList {
     /// Nothing is listed. It takes no memory.
-    pub fn new(alloc: Global) -> Listing
+    pub fn new(alloc: Global) -> QueueList
         ensures { result ≡ [] }
     {
-        Listing {
+        QueueList {
             queues: Vec::new(alloc),
         }
     }

@@ -15,7 +15,7 @@ use std::sync::Wait;
 use std::sync::ledger::Ledger;
 
 /// A kind of queue that agents hand on.
-pub trait Kind {
+pub trait QueueKind {
     ghost use Rattle.std.specs.Prelude.{◌≡◌};
     ghost use Rattle.hub_queue.specs.Taking.{TakerSeat};
     ghost use Rattle.hub_clients.specs.declared.handed.HandedQueue.{
@@ -106,7 +106,7 @@ impl<K> Queue<K> {
     }
 }
 
-impl<K: Kind> Queue<K> {
+impl<K: QueueKind> Queue<K> {
     /// Hands the queue on to an agent, with all its lines and all that waits in it: the directory
     /// keeps it until that agent fetches it.
     ///
@@ -135,7 +135,7 @@ pub struct Client;
 /// `Directory::client` makes one, empty and disabled.
 pub type ClientQueue = Queue<Client>;
 
-impl Kind for Client {
+impl QueueKind for Client {
     ghost use Rattle.std.specs.Prelude.{◌≡◌};
     ghost use Rattle.hub_queue.specs.Taking.{TakerSeat};
     ghost use Rattle.hub_clients.specs.declared.handed.HandedQueue.TheVariants.{
@@ -203,7 +203,7 @@ pub struct Worker;
 /// `Directory::worker` makes one, empty and enabled.
 pub type WorkerQueue = Queue<Worker>;
 
-impl Kind for Worker {
+impl QueueKind for Worker {
     ghost use Rattle.std.specs.Prelude.{◌≡◌};
     ghost use Rattle.hub_queue.specs.Taking.{TakerSeat};
     ghost use Rattle.hub_clients.specs.declared.handed.HandedQueue.TheVariants.{

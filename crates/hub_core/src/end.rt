@@ -12,7 +12,7 @@ use crate::line::{Line, Lines, Phase};
 use crate::outcome::Outcome;
 use crate::queues::Queues;
 use hub_envelope::{AgentId, Envelope, LineId, MAX_MOVES, MAX_PUT, OutOfMemory};
-use std::alloc::{AllocError, Global};
+use std::alloc::Global;
 
 /// Where an end is (WHATWG HTML, "Transferable objects": a port that travels is with no agent).
 #[derive(Clone, Copy)]
@@ -80,7 +80,7 @@ pub struct End {
 
 impl End {
     /// An end that the agent has just made.
-    pub(crate) fn new(alloc: Global, agent: AgentId, kind: Kind) -> Result<End, AllocError>
+    pub(crate) fn new(alloc: Global, agent: AgentId, kind: Kind) -> Result<End, OutOfMemory>
         ensures { IfOk result (λ x. x ≡ new_end agent kind) }
     {
         Ok(End {

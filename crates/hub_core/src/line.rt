@@ -5,8 +5,8 @@ ghost use Rattle.std.specs.Prelude.{slice_get, slice_set};
 ghost use Rattle.std.specs.List.{position};
 ghost use Rattle.hub_core.specs.Kept.{first_line, first_free, is_anyone_at, is_anyone_from};
 
-use hub_envelope::{AgentId, LineId, MAX_LINES};
-use std::alloc::{AllocError, Global};
+use hub_envelope::{AgentId, LineId, MAX_LINES, OutOfMemory};
+use std::alloc::Global;
 use std::marker::Model;
 
 /// Where a line's poster is.
@@ -60,7 +60,7 @@ impl Model for Lines {
 
 impl Lines {
     /// So many lines that have put nothing.
-    pub(crate) fn first(alloc: Global, count: usize) -> Result<Lines, AllocError>
+    pub(crate) fn first(alloc: Global, count: usize) -> Result<Lines, OutOfMemory>
         ensures { IfOk result (λ lines. lines ≡ replicate count first_line) }
     {
         let mut lines = Vec::new(alloc);

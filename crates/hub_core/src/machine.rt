@@ -111,7 +111,7 @@ impl Core {
         self.act(step)
     }
 
-    // What each action of a step does.
+    /// What each action of a step does.
     #[inline(always)]
     fn act(&mut self, step: Step) -> Result<Outcome, OutOfMemory>
         ensures { MatchResult result (λ o. FitsAndShows self.old self.new step o

@@ -2,8 +2,8 @@ ghost use Rattle.std.specs.Prelude.{◌≡◌, ◌<◌, [], ◌∷◌, ◌++◌,
 ghost use Rattle.std.specs.Prelude.{drop, IfOk, OnOk, OnErr, MatchOption, MatchResult};
 ghost use Rattle.hub_core.specs.Kept.{joined};
 
-use hub_envelope::{Envelope, Items};
-use std::alloc::{AllocError, Global};
+use hub_envelope::{Envelope, Items, OutOfMemory};
+use std::alloc::Global;
 use std::collections::VecDeque;
 use std::marker::Model;
 
@@ -37,7 +37,7 @@ impl Waiting {
         self.envelopes.len()
     }
 
-    fn put(&mut self, envelope: Envelope) -> Result<(), AllocError>
+    fn put(&mut self, envelope: Envelope) -> Result<(), OutOfMemory>
         ensures ok { OnOk result (self.new ≡ self.old ++ envelope ∷ []) }
         ensures err { OnErr result (self.new ≡ self.old) }
     {
@@ -70,7 +70,7 @@ impl Model for Queues {
 
 impl Queues {
     /// One empty queue.
-    pub(crate) fn one(alloc: Global) -> Result<Queues, AllocError>
+    pub(crate) fn one(alloc: Global) -> Result<Queues, OutOfMemory>
         ensures { IfOk result (λ queues. queues ≡ [] ∷ []) }
     {
         let mut queues = VecDeque::with_capacity(alloc, 1)?;
@@ -86,7 +86,7 @@ impl Queues {
     }
 
     /// Adds an empty queue at the back.
-    pub(crate) fn add(&mut self, alloc: Global) -> Result<(), AllocError>
+    pub(crate) fn add(&mut self, alloc: Global) -> Result<(), OutOfMemory>
         ensures { MatchResult result (λ _. self.new ≡ self.old ++ [] ∷ [])
             (λ _. self.new ≡ self.old) }
     {
@@ -102,7 +102,7 @@ impl Queues {
     }
 
     /// Puts an envelope last in a queue.
-    pub(crate) fn put(&mut self, position: usize, envelope: Envelope) -> Result<(), AllocError>
+    pub(crate) fn put(&mut self, position: usize, envelope: Envelope) -> Result<(), OutOfMemory>
         requires { position < length self.old }
         ensures ok { OnOk result (self.new
             ≡ slice_set self.old position (slice_index_or self.old position [] ++ envelope ∷ [])) }
@@ -123,16 +123,16 @@ impl Queues {
     }
 
     /// How many envelopes wait in all queues.
-    fn waiting(&self) -> Result<usize, AllocError>
+    fn waiting(&self) -> Result<usize, OutOfMemory>
         ensures { IfOk result (λ n. n ≡ length (joined self.now)) }
     {
         let (front, back) = self.queues.as_slices();
         let waiting = count_in(front)?;
-        waiting.checked_add(count_in(back)?).ok_or(AllocError)
+        waiting.checked_add(count_in(back)?).ok_or(OutOfMemory)
     }
 
     /// Takes all envelopes, queue after queue, and leaves no queue.
-    pub(crate) fn empty(&mut self, alloc: Global) -> Result<Items<Envelope>, AllocError>
+    pub(crate) fn empty(&mut self, alloc: Global) -> Result<Items<Envelope>, OutOfMemory>
         ensures { MatchResult result (λ envelopes. (envelopes ≡ joined self.old) × (self.new ≡ []))
             (λ _. self.new ≡ self.old) }
     {
@@ -149,12 +149,12 @@ impl Queues {
 }
 
 /// How many envelopes wait in these queues.
-fn count_in(queues: &[Waiting]) -> Result<usize, AllocError>
+fn count_in(queues: &[Waiting]) -> Result<usize, OutOfMemory>
     ensures { IfOk result (λ n. n ≡ length (joined queues.now)) }
 {
     let mut count: usize = 0;
     for queue in queues {
-        count = count.checked_add(queue.count()).ok_or(AllocError)?;
+        count = count.checked_add(queue.count()).ok_or(OutOfMemory)?;
     }
     Ok(count)
 }

@@ -12,7 +12,7 @@ use hub_locked::Lends;
 use std::alloc::Global;
 use std::sync::Wait;
 
-// Puts one more value, and its name behind those of the values before, or does neither.
+/// Puts one more value, and its name behind those of the values before, or does neither.
 fn put_next<V: Named + Drop, L: Lends<Kept<V>>, R: Wait>(
     rt: &R,
     lender: &mut L,
@@ -40,7 +40,7 @@ fn put_next<V: Named + Drop, L: Lends<Kept<V>>, R: Wait>(
     put
 }
 
-// Takes back the values of these names, the last one first.
+/// Takes back the values of these names, the last one first.
 fn take_back<V: Named + Drop, L: Lends<Kept<V>>, R: Wait>(
     rt: &R,
     lender: &mut L,

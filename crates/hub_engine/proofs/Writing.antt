@@ -1,6 +1,6 @@
 -- What an engine has written.
 use Rattle.std.proofs.Common.{◌≡◌, ℕ, List, Option, Result, Ok, Err, sym, subst}
-use Rattle.hub_engine.specs.declared.device.Device.{Device}
+use Rattle.hub_engine.specs.declared.status.Device.{Device}
 use Rattle.hub_engine.specs.declared.status.ExitStatus.{ExitStatus}
 use Rattle.hub_engine.specs.Beginning.{AppendsBeginning}
 use Rattle.hub_engine.specs.Engine.{Says, Writes}

@@ -1,6 +1,6 @@
 -- How the process ends, by what was answered.
 use Rattle.std.specs.Prelude.{ℕ, List, Option, Some, None, Result, Ok, Err, codes}
-use Rattle.hub_engine.specs.declared.device.Device.{Device as DeviceFailure}
+use Rattle.hub_engine.specs.declared.status.Device.{Device as DeviceFailure}
 use Rattle.hub_engine.specs.declared.status.ExitStatus.{ExitStatus}
 use Rattle.hub_engine.specs.declared.status.ExitStatus.TheVariants.{Usage, Device}
 

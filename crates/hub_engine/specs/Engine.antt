@@ -4,12 +4,12 @@ use Rattle.std.specs.Fmt.{decimal}
 use Rattle.std.specs.Io.KnownBytes.{Appends}
 use Rattle.hub_engine.specs.declared.counted_reader.CountedReader.{CountedReader}
 use Rattle.hub_engine.specs.declared.counted_writer.CountedWriter.{CountedWriter}
-use Rattle.hub_engine.specs.declared.device.Device.{Device}
+use Rattle.hub_engine.specs.declared.status.Device.{Device}
 use Rattle.hub_engine.specs.declared.status.ExitStatus.{ExitStatus}
 use Rattle.hub_engine.specs.declared.status.ExitStatus.TheVariants.{BadInput, OutOfMemory}
 use Rattle.hub_engine.specs.Beginning.{AppendsBeginning}
 use Rattle.hub_engine.specs.Counted.{failed_reads, failed_writes}
-use Rattle.hub_engine.specs.Failures.{one_more}
+use Rattle.hub_engine.specs.Failures.{one_counted}
 use Rattle.hub_engine.specs.IsInput.{IsInput}
 use Rattle.hub_engine.specs.OutOfMemory.{out_of_memory}
 
@@ -28,8 +28,8 @@ AnswersInput output left old new result = (input : List ℕ) × IsInput left inp
 abbrev pub CountsDevice : {R W : Type 0} → CountedReader R → CountedReader R → CountedWriter W → CountedWriter W → Result ExitStatus Device → Type 0
 CountsDevice r r' w w' (Ok status) = (failed_reads r' ≡ failed_reads r) × (failed_writes w' ≡ failed_writes w)
 CountsDevice r r' w w' (Err failed) =
-    ((failed_reads r' ≡ one_more (failed_reads r)) × (w' ≡ w))
-    ⊎ ((failed_reads r' ≡ failed_reads r) × (failed_writes w' ≡ one_more (failed_writes w)))
+    ((failed_reads r' ≡ one_counted (failed_reads r)) × (w' ≡ w))
+    ⊎ ((failed_reads r' ≡ failed_reads r) × (failed_writes w' ≡ one_counted (failed_writes w)))
 
 -- this text, with this status
 abbrev pub Says : ExitStatus → List ℕ → ExitStatus → List ℕ → Type 0

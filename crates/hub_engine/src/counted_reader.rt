@@ -2,11 +2,11 @@ ghost use Rattle.std.specs.Prelude.{◌≡◌, ◌≢◌, ◌≤◌, ◌<◌, �
 ghost use Rattle.std.specs.Prelude.{IfSome, IsErr, OnOk};
 ghost use Rattle.std.specs.IoError.{error_kind};
 ghost use Rattle.hub_engine.specs.IsInput.{GivesBytes};
-ghost use Rattle.hub_engine.specs.Failures.{CountsFailure, CountsInterruption, one_more};
+ghost use Rattle.hub_engine.specs.Failures.{CountsFailure, CountsInterruption, one_counted};
 ghost use Rattle.hub_engine.specs.Counted.{inner_reader, reads_made, interrupted_reads};
 ghost use Rattle.hub_engine.specs.Counted.{failed_reads};
 
-use crate::device::Device;
+use crate::status::Device;
 use hub_envelope::MAX_READS;
 use std::io;
 use std::io::{ErrorKind, Read};
@@ -24,6 +24,7 @@ pub struct CountedReader<R> {
 }
 
 impl<R: Read> CountedReader<R> {
+    /// A reader of which nothing was read yet.
     pub fn new(reader: R) -> CountedReader<R>
         ensures reader { inner_reader result ≡ reader }
         ensures reads { reads_made result ≡ 0 }
@@ -90,7 +91,7 @@ impl<R: Read> CountedReader<R> {
     }
 
     fn failed(&mut self) -> Device
-        ensures { self.new ≡ record self.old { failures = one_more self.old.failures } }
+        ensures { self.new ≡ record self.old { failures = one_counted self.old.failures } }
     {
         self.failures = self.failures.wrapping_add(1);
         Device

@@ -1,10 +1,10 @@
 ghost use Rattle.std.specs.Prelude.{◌≡◌, ◌≤◌, ◌<◌, length, take, Ok, IfOk, IsOk, IsErr, OnOk};
 ghost use Rattle.std.specs.Prelude.{OnErr};
 ghost use Rattle.std.specs.Io.KnownBytes.{Appends, Keeps};
-ghost use Rattle.hub_engine.specs.Failures.{CountsFailure, one_more};
+ghost use Rattle.hub_engine.specs.Failures.{CountsFailure, one_counted};
 ghost use Rattle.hub_engine.specs.Counted.{inner_writer, writes_made, flushes_made, failed_writes};
 
-use crate::device::Device;
+use crate::status::Device;
 use std::io;
 use std::io::Write;
 
@@ -19,6 +19,7 @@ pub struct CountedWriter<W> {
 }
 
 impl<W: Write> CountedWriter<W> {
+    /// A writer to which nothing was written yet.
     pub fn new(writer: W) -> CountedWriter<W>
         ensures writer { inner_writer result ≡ writer }
         ensures writes { writes_made result ≡ 0 }
@@ -43,7 +44,7 @@ impl<W: Write> CountedWriter<W> {
         ensures kept { OnErr result (Keeps (W.contents (inner_writer self.old))
             (W.contents (inner_writer self.new))) }
         ensures failures { CountsFailure result (failed_writes self.old) (failed_writes self.new) }
-        ensures asked { (writes_made self.new ≡ one_more (writes_made self.old))
+        ensures asked { (writes_made self.new ≡ one_counted (writes_made self.old))
             × (flushes_made self.new ≡ flushes_made self.old) }
     {
         self.writes = self.writes.wrapping_add(1);
@@ -56,7 +57,7 @@ impl<W: Write> CountedWriter<W> {
         ensures kept { Keeps (W.contents (inner_writer self.old))
             (W.contents (inner_writer self.new)) }
         ensures failures { CountsFailure result (failed_writes self.old) (failed_writes self.new) }
-        ensures asked { (flushes_made self.new ≡ one_more (flushes_made self.old))
+        ensures asked { (flushes_made self.new ≡ one_counted (flushes_made self.old))
             × (writes_made self.new ≡ writes_made self.old) }
     {
         self.flushes = self.flushes.wrapping_add(1);
@@ -92,7 +93,7 @@ impl<W: Write> CountedWriter<W> {
     }
 
     fn failed(&mut self) -> Device
-        ensures { self.new ≡ record self.old { failures = one_more self.old.failures } }
+        ensures { self.new ≡ record self.old { failures = one_counted self.old.failures } }
     {
         self.failures = self.failures.wrapping_add(1);
         Device

@@ -6,10 +6,9 @@ ghost use Rattle.hub_engine.specs.Failures.{CountsFlush};
 
 use crate::counted_reader::CountedReader;
 use crate::counted_writer::CountedWriter;
-use crate::device::Device;
 use crate::input::{InputError, read_input};
 use crate::output::end_out_of_memory;
-use crate::status::ExitStatus;
+use crate::status::{Device, ExitStatus};
 use std::alloc::Global;
 use std::io::{Read, Write};
 

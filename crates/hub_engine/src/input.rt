@@ -2,15 +2,16 @@
 
 ghost use Rattle.std.specs.Prelude.{◌≡◌, ◌<◌, ◌+◌, ◌⊎◌, false, IfOk, OnOk, length, vec_len};
 ghost use Rattle.hub_engine.specs.IsInput.{IsInput, ReadsMore};
-ghost use Rattle.hub_engine.specs.Failures.{CountsFailedRead, one_more};
+ghost use Rattle.hub_engine.specs.Failures.{CountsFailedRead, one_counted};
 ghost use Rattle.hub_engine.specs.Counted.{inner_reader, reads_made, interrupted_reads};
 ghost use Rattle.hub_engine.specs.Counted.{failed_reads};
 ghost use Rattle.hub_envelope.specs.declared.limits.TheConstants.{MAX_READS};
 
 use crate::counted_reader::CountedReader;
-use crate::device::Device;
 use crate::output::PIECE;
-use std::alloc::{AllocError, Global};
+use crate::status::Device;
+use hub_envelope::OutOfMemory;
+use std::alloc::Global;
 use std::io::Read;
 
 /// Why an input wasn't read.
@@ -20,13 +21,13 @@ pub enum InputError {
     OutOfMemory,
 }
 
-impl From<AllocError> for InputError {
+impl From<OutOfMemory> for InputError {
     ghost use Rattle.hub_engine.specs.declared.input.InputError.TheVariants.{OutOfMemory};
     ghost use Rattle.std.specs.Prelude.{◌≡◌};
 
     ghost from_gives = { λ _ e. e ≡ OutOfMemory };
 
-    fn from(_error: AllocError) -> InputError {
+    fn from(_error: OutOfMemory) -> InputError {
         InputError::OutOfMemory
     }
 }
@@ -72,7 +73,7 @@ fn read_more<R: Read>(
         (R.remaining (inner_reader reader.new)) input.old.items input.new.items has_ended) }
     ensures goes_on { IfOk result (λ has_ended. has_ended ≡ false →
         (length input.old.items < length input.new.items)
-        ⊎ (interrupted_reads reader.new ≡ one_more (interrupted_reads reader.old))) }
+        ⊎ (interrupted_reads reader.new ≡ one_counted (interrupted_reads reader.old))) }
     ensures reads { OnOk result ((reads_made reader.old < MAX_READS)
         × (reads_made reader.new ≡ reads_made reader.old + 1)) }
     ensures failures { CountsFailedRead result (failed_reads reader.old) (failed_reads reader.new) }
@@ -84,7 +85,7 @@ fn read_more<R: Read>(
     Ok(count == 0)
 }
 
-fn zeros(alloc: Global, len: usize) -> Result<Vec<u8>, AllocError>
+fn zeros(alloc: Global, len: usize) -> Result<Vec<u8>, OutOfMemory>
     ensures { IfOk result (λ v. vec_len v ≡ len) }
 {
     vec![in alloc; 0u8; len]

@@ -4,8 +4,6 @@
 
 mod counted_reader;
 mod counted_writer;
-mod device;
-mod ending;
 mod engine;
 mod input;
 mod output;
@@ -13,9 +11,7 @@ mod status;
 
 pub use counted_reader::CountedReader;
 pub use counted_writer::CountedWriter;
-pub use device::Device;
-pub use ending::Ending;
 pub use engine::{Engine, run_engine};
 pub use input::{InputError, read_input};
 pub use output::{PIECE, end_out_of_memory, end_unread, end_with, write_kept, write_whole};
-pub use status::ExitStatus;
+pub use status::{Device, Ending, ExitStatus};

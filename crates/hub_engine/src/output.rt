@@ -10,8 +10,7 @@ ghost use Rattle.hub_engine.specs.Failures.{CountsFailure, CountsFlush};
 ghost use Rattle.hub_engine.specs.OutOfMemory.{out_of_memory};
 
 use crate::counted_writer::CountedWriter;
-use crate::device::Device;
-use crate::status::ExitStatus;
+use crate::status::{Device, ExitStatus};
 use hub_envelope::OutOfMemory;
 use std::alloc::Global;
 use std::io::Write;

@@ -1,6 +1,8 @@
-ghost use Rattle.std.specs.Prelude.{◌≡◌};
+//! How the program ends.
+ghost use Rattle.std.specs.Prelude.{◌≡◌, option_map};
 ghost use Rattle.std.specs.Process.{exit_status};
 ghost use Rattle.hub_engine.specs.Status.{status_number};
+ghost use Rattle.hub_engine.specs.Ending.{message_for, status_for};
 
 use std::process::ExitCode;
 
@@ -34,9 +36,45 @@ impl ExitStatus {
         }
     }
 
+    /// The number that the process ends with.
     pub fn code(self) -> ExitCode
         ensures { exit_status result ≡ status_number self }
     {
         ExitCode::from(self.number())
+    }
+}
+
+/// A read or a write failed.
+#[derive(Clone, Copy, Debug, PartialEq, Eq, Drop)]
+pub struct Device;
+
+/// How the process ends.
+#[derive(Clone, Copy, Debug, PartialEq, Eq)]
+pub struct Ending {
+    pub status: ExitStatus,
+    /// What is printed on standard error, as a line.
+    pub message: Option<&'static str>,
+}
+
+impl Ending {
+    /// The ending for what the engine answered, or for arguments that ask for nothing.
+    pub fn of(answer: Result<ExitStatus, Device>) -> Ending
+        ensures status { result.status ≡ status_for answer }
+        ensures message { option_map (λ m. m.now) result.message ≡ message_for answer }
+    {
+        match answer {
+            Ok(ExitStatus::Usage) => Ending {
+                status: ExitStatus::Usage,
+                message: Some("usage: messagehub steps|run|check"),
+            },
+            Ok(status) => Ending {
+                status,
+                message: None,
+            },
+            Err(Device) => Ending {
+                status: ExitStatus::Device,
+                message: Some("input or output failed"),
+            },
+        }
     }
 }

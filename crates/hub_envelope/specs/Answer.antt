@@ -15,7 +15,7 @@ answer_to None = Err NotJson
 answer_to (Some d) =
     if has_float d then Err NotWhole else (if nat_lt MAX_NESTING (depth d) then Err TooDeep else (if nat_lt MAX_BODY_BYTES (length (compact_text d)) then Err TooLong else Ok (compact_text d)))
 
--- the body that a text stands for, as its compact text, or why there is none; want of memory aside
+-- the body that a text stands for, as its compact text, or why there is none; unless memory runs out
 unfoldable pub answer_of : List ℕ → Result (List ℕ) BodyError
 answer_of text = answer_to (read text)
 

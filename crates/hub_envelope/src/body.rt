@@ -6,12 +6,13 @@ ghost use Rattle.hub_envelope.specs.Answer.{answer_of, IsAnswerTo};
 ghost use Rattle.hub_envelope.specs.BodyText.{IsBodyText};
 ghost use Rattle.hub_envelope.specs.Compact.{IsCompact};
 
+use crate::OutOfMemory;
 use crate::compact::is_compact;
 use crate::limits::{MAX_BODY_BYTES, MAX_NESTING};
 use crate::profile::{is_whole, nests_within};
 use crate::stored_text::StoredText;
 use serde_json::Value;
-use std::alloc::{AllocError, Global};
+use std::alloc::Global;
 use std::marker::Model;
 use thiserror::Error;
 
@@ -86,7 +87,7 @@ impl Body {
     }
 
     /// The body `null`.
-    pub fn null(alloc: Global) -> Result<Body, AllocError>
+    pub fn null(alloc: Global) -> Result<Body, OutOfMemory>
         ensures { IfOk result (λ body. body ≡ codes "null") }
     {
         let text = StoredText::copy_of(alloc, "null")?;
@@ -155,7 +156,7 @@ impl Body {
 impl Clone for Body {
     ghost is_clone = { λ body copy. copy ≡ body };
 
-    fn clone(&self) -> Result<Body, AllocError> {
+    fn clone(&self) -> Result<Body, OutOfMemory> {
         Ok(Body {
             text: self.text.clone()?,
         })

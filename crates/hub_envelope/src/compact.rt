@@ -43,7 +43,7 @@ fn after_value(text: &[u8], levels: usize) -> Option<&[u8]>
     }
 }
 
-/// What stands behind the array of which the bracket stands before the text.
+/// What follows an array whose `[` comes before the text.
 #[cycle(after_value)]
 fn after_items(text: &[u8], levels: usize) -> Option<&[u8]>
     ensures { IfSome result (λ rest. IsFront (levels + 1) (91 ∷ text.now) rest.now) }
@@ -63,7 +63,7 @@ fn after_items(text: &[u8], levels: usize) -> Option<&[u8]>
     }
 }
 
-/// What stands behind the object of which the brace stands before the text.
+/// What follows an object whose `{` comes before the text.
 #[cycle(after_value)]
 fn after_members(text: &[u8], levels: usize) -> Option<&[u8]>
     ensures { IfSome result (λ rest. IsFront (levels + 1) (123 ∷ text.now) rest.now) }
@@ -111,8 +111,8 @@ fn member_key(text: &[u8]) -> Option<(&[u8], &[u8])>
     Some((key, value))
 }
 
-/// What stands behind the string of which the first quote stands before the text. Bytes that need
-/// an escape have their short one.
+/// What follows a string whose first quote comes before the text. Bytes that need an escape have
+/// their short one.
 fn after_string(text: &[u8]) -> Option<&[u8]>
     ensures { IfSome result (λ rest. IsFront 0 (34 ∷ text.now) rest.now) }
 {
@@ -182,7 +182,7 @@ fn after_number(text: &[u8]) -> Option<&[u8]>
     }
 }
 
-/// What stands behind the decimal digits at the front, of which the first isn't 0.
+/// What follows the decimal digits at the front, which don't begin with 0.
 fn after_digits(text: &[u8]) -> Option<&[u8]>
     ensures { IfSome result (λ rest. IsNumberBefore text.now rest.now) }
 {

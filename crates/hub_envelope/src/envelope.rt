@@ -3,10 +3,11 @@ ghost use Rattle.std.specs.Cmp.Rules.{comparing};
 ghost use Rattle.std.proofs.Common.{rules};
 ghost use Rattle.hub_envelope.specs.Same.{is_same_draft, is_same_envelope};
 
+use crate::OutOfMemory;
 use crate::body::Body;
 use crate::ids::{AgentId, EndId, LineId};
 use crate::ports::Ports;
-use std::alloc::{AllocError, Global};
+use std::alloc::Global;
 
 /// What a sender hands over to be posted.
 #[derive(Debug, Drop)]
@@ -26,7 +27,7 @@ impl Draft {
 
     /// The notice that a port puts at its peer when it is closed (this project's own, no event of
     /// WHATWG HTML): it has agent 0, the body `null` and no ports.
-    pub fn notice(alloc: Global) -> Result<Draft, AllocError>
+    pub fn notice(alloc: Global) -> Result<Draft, OutOfMemory>
         ensures { IfOk result (λ draft. draft ≡ notice_draft) }
     {
         Ok(Draft {
@@ -43,7 +44,7 @@ impl Draft {
 impl Clone for Draft {
     ghost is_clone = { λ draft copy. copy ≡ draft };
 
-    fn clone(&self) -> Result<Draft, AllocError> {
+    fn clone(&self) -> Result<Draft, OutOfMemory> {
         Ok(Draft {
             agent: self.agent,
             body: self.body.clone()?,
@@ -103,7 +104,7 @@ pub struct Envelope {
 impl Clone for Envelope {
     ghost is_clone = { λ envelope copy. copy ≡ envelope };
 
-    fn clone(&self) -> Result<Envelope, AllocError> {
+    fn clone(&self) -> Result<Envelope, OutOfMemory> {
         Ok(Envelope {
             end: self.end,
             epoch: self.epoch,

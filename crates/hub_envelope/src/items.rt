@@ -1,6 +1,7 @@
 ghost use Rattle.std.specs.Prelude.{◌≡◌, [], ◌∷◌, ◌++◌, IfErr, OnOk};
 
-use std::alloc::{AllocError, Global};
+use crate::OutOfMemory;
+use std::alloc::Global;
 use std::marker::Model;
 
 /// Values in order. A contract says which they are, and not how much memory they were given.
@@ -57,7 +58,7 @@ impl<T> Items<T> {
 
 impl<T: Drop> Items<T> {
     /// Puts a value behind the others. After an error the values are as they were.
-    pub fn push(&mut self, item: T) -> Result<(), AllocError>
+    pub fn push(&mut self, item: T) -> Result<(), OutOfMemory>
         ensures ok { OnOk result (self.new ≡ self.old ++ item ∷ []) }
         ensures err { IfErr result (λ e. self.new ≡ self.old) }
     {

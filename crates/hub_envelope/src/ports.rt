@@ -3,9 +3,10 @@ ghost use Rattle.std.specs.Cmp.Rules.{comparing};
 ghost use Rattle.std.proofs.Common.{rules};
 ghost use Rattle.hub_envelope.specs.SameEnds.{are_same_ends};
 
+use crate::OutOfMemory;
 use crate::ids::EndId;
 use crate::limits::MAX_PORTS;
-use std::alloc::{AllocError, Global};
+use std::alloc::Global;
 use std::marker::Model;
 
 /// The ports that travel with an envelope, in the order of the transfer list (WHATWG HTML,
@@ -71,7 +72,7 @@ impl Ports {
 impl Clone for Ports {
     ghost is_clone = { λ ports copy. copy ≡ ports };
 
-    fn clone(&self) -> Result<Ports, AllocError> {
+    fn clone(&self) -> Result<Ports, OutOfMemory> {
         Ok(Ports {
             ends: self.ends.clone()?,
         })

@@ -1,9 +1,10 @@
 ghost use Rattle.std.specs.Prelude.{◌≡◌, IfOk, bytes_eq, string_bytes};
 ghost use Rattle.hub_envelope.specs.StoredBytes.{stored_bytes};
 
+use crate::OutOfMemory;
 use crate::limits::INLINE_BYTES;
 use arrayvec::ArrayString;
-use std::alloc::{AllocError, Global};
+use std::alloc::Global;
 use std::fmt;
 
 /// A text, which lies in the value itself where it is short.
@@ -17,7 +18,7 @@ pub(crate) enum StoredText {
 impl StoredText {
     /// A copy of the text.
     #[inline]
-    pub(crate) fn copy_of(alloc: Global, text: &str) -> Result<StoredText, AllocError>
+    pub(crate) fn copy_of(alloc: Global, text: &str) -> Result<StoredText, OutOfMemory>
         ensures { IfOk result (λ stored. stored_bytes stored ≡ text.now) }
     {
         match ArrayString::from(text) {
@@ -63,7 +64,7 @@ impl Drop for StoredText {
 impl Clone for StoredText {
     ghost is_clone = { λ stored copy. stored_bytes copy ≡ stored_bytes stored };
 
-    fn clone(&self) -> Result<StoredText, AllocError> {
+    fn clone(&self) -> Result<StoredText, OutOfMemory> {
         match self {
             StoredText::Inline(text) => Ok(StoredText::Inline(*text)),
             StoredText::Allocated(text) => Ok(StoredText::Allocated(text.clone()?)),

@@ -4,7 +4,8 @@ ghost use Rattle.std.specs.Cmp.{partial_equiv_from_equiv};
 ghost use Rattle.std.specs.Cmp.Lexicographic.{slice_cmp, nat_list_eq_equiv, nat_list_cmp_total};
 ghost use Rattle.std.specs.Cmp.Lexicographic.{texts_ties, texts_po};
 
-use std::alloc::{AllocError, Global};
+use crate::OutOfMemory;
+use std::alloc::Global;
 use std::cmp::Ordering;
 use std::marker::Model;
 
@@ -25,7 +26,7 @@ impl Model for Text {
 
 impl Text {
     /// A copy of a text.
-    pub fn of(alloc: Global, text: &str) -> Result<Text, AllocError>
+    pub fn of(alloc: Global, text: &str) -> Result<Text, OutOfMemory>
         ensures { IfOk result (λ t. t ≡ text.now) }
     {
         Ok(Text {
@@ -52,7 +53,7 @@ impl Text {
 impl Clone for Text {
     ghost is_clone = { λ text copy. copy ≡ text };
 
-    fn clone(&self) -> Result<Text, AllocError> {
+    fn clone(&self) -> Result<Text, OutOfMemory> {
         Ok(Text {
             text: self.text.clone()?,
         })

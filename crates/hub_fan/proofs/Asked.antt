@@ -4,8 +4,8 @@ use Rattle.std.proofs.lemmas.Bool.{cases_lt}
 use Rattle.std.proofs.lemmas.Option.{slice_get-get_or}
 use Rattle.hub_fan.specs.Places.{Ends, Gives, GivesNone, Place}
 use Rattle.hub_fan.specs.Fans.{AskedIf, AskedWhere, AtOne, AtPlace, IfFrom, OneAsked, Places, TookFrom}
-use Rattle.hub_fan.specs.declared.taken.FanTaken.{FanTaken}
-use Rattle.hub_fan.specs.declared.taken.FanTaken.TheVariants.{Message, Empty, Ended, Disabled}
+use Rattle.hub_fan.specs.declared.fan.FanTaken.{FanTaken}
+use Rattle.hub_fan.specs.declared.fan.FanTaken.TheVariants.{Message, Empty, Ended, Disabled}
 use Rattle.hub_fan.proofs.Written.{each_written, written_here, written_beside}
 
 module _ {M : Type 0} where

@@ -6,8 +6,8 @@ use Rattle.hub_fan.specs.Places.{Ends, Gives, GivesNone, Keeps, Place, Shows, St
 use Rattle.hub_fan.specs.Turns.{rank_of}
 use Rattle.hub_fan.specs.declared.closing.FanDrained.{FanDrained}
 use Rattle.hub_fan.specs.declared.closing.FanDrained.TheVariants as drained
-use Rattle.hub_fan.specs.declared.taken.FanTaken.{FanTaken}
-use Rattle.hub_fan.specs.declared.taken.FanTaken.TheVariants.{Message, Empty, Ended, Disabled}
+use Rattle.hub_fan.specs.declared.fan.FanTaken.{FanTaken}
+use Rattle.hub_fan.specs.declared.fan.FanTaken.TheVariants.{Message, Empty, Ended, Disabled}
 
 abbrev pub Places : Type 0 → Type 0
 Places M = List (Place M)

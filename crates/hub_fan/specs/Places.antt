@@ -1,8 +1,8 @@
 -- What is seen of a place of a fan, which has a line or is free, as a call begins and ends.
 use Rattle.std.specs.Prelude.{◌≡◌, List, [], ◌∷◌, ◌++◌, Option, Some, None}
 use Rattle.hub_line.specs.Ends.{taken, HasEnded, HasLooked, HasNoneLeft, HasSome, IsInOrder, IsShut, SameTaker}
-use Rattle.hub_line.specs.declared.taken.LineTaken.{LineTaken}
-use Rattle.hub_line.specs.declared.taken.LineTaken.TheVariants.{Item, Empty, Ended}
+use Rattle.hub_line.specs.declared.taker.LineTaken.{LineTaken}
+use Rattle.hub_line.specs.declared.taker.LineTaken.TheVariants.{Item, Empty, Ended}
 use Rattle.hub_line.specs.declared.taker.LineTaker.{LineTaker}
 
 abbrev pub Place : Type 0 → Type 0

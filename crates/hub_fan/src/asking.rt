@@ -1,22 +1,22 @@
 //! How the lines of a fan are asked, in turn.
 ghost use Rattle.std.specs.Prelude.{◌≡◌, ◌≢◌, ◌<◌, ◌≤◌, length, slice_get, ℕ, None, Some};
 ghost use Rattle.hub_fan.specs.Fans.{IfEnded, IfFrom, TookFrom, TookInTurn, with_ended};
-ghost use Rattle.hub_fan.specs.Turns.{stage_of};
-ghost use Rattle.hub_fan.specs.declared.taken.FanTaken.TheVariants.{Disabled};
+ghost use Rattle.hub_fan.specs.Turns.{turn_stage};
+ghost use Rattle.hub_fan.specs.declared.fan.FanTaken.TheVariants.{Disabled};
 
+use crate::fan::FanTaken;
 use crate::hints::Hints;
-use crate::place::ask;
-use crate::taken::FanTaken;
+use crate::places::ask;
 use hub_line::{LineTaken, LineTaker};
 
 /// How many stages there are.
 const STAGES: usize = 4;
 
-// The stage at which a line is asked: those that are ready come first.
+/// The stage at which a line is asked: those that are ready come first.
 #[inline]
 fn stage_at(next: usize, ready: u64, line: usize) -> usize
     requires { line < 64 }
-    ensures { result ≡ stage_of next ready line }
+    ensures { result ≡ turn_stage next ready line }
 {
     let turn = if next <= line { 0 } else { 1 };
     if (ready >> line) % 2 == 1 {
@@ -26,11 +26,11 @@ fn stage_at(next: usize, ready: u64, line: usize) -> usize
     }
 }
 
-// The lines among which those of a stage are.
+/// The lines among which those of a stage are.
 #[inline]
 fn bounds_of(next: usize, count: usize, stage: usize) -> (usize, usize)
     ensures within { result.1 ≤ count }
-    ensures all { (ready line : ℕ) → line < count → stage_of next ready line ≡ stage →
+    ensures all { (ready line : ℕ) → line < count → turn_stage next ready line ≡ stage →
         (result.0 ≤ line) × (line < result.1) }
 {
     if stage % 2 == 0 {
@@ -40,7 +40,7 @@ fn bounds_of(next: usize, count: usize, stage: usize) -> (usize, usize)
     }
 }
 
-// Asks the lines of one stage.
+/// Asks the lines of one stage.
 #[inline(always)]
 fn ask_stage<M: Drop>(
     lines: &mut [Option<LineTaker<M>>],
@@ -50,9 +50,9 @@ fn ask_stage<M: Drop>(
     hints: &mut Hints,
 ) -> FanTaken<M>
     requires { length lines.old < 64 }
-    ensures took { TookFrom (λ j. stage_of next ready j
-        ≡ stage) (λ i j. (stage_of next ready j ≡ stage) × (j < i)) result lines.old lines.new }
-    ensures from { IfFrom (λ i. (stage_of next ready i ≡ stage) × (i < length lines.old)) result }
+    ensures took { TookFrom (λ j. turn_stage next ready j
+        ≡ stage) (λ i j. (turn_stage next ready j ≡ stage) × (j < i)) result lines.old lines.new }
+    ensures from { IfFrom (λ i. (turn_stage next ready i ≡ stage) × (i < length lines.old)) result }
     ensures some { result ≢ Disabled }
 {
     let (from, to) = bounds_of(next, lines.len(), stage);
@@ -68,8 +68,8 @@ fn ask_stage<M: Drop>(
     FanTaken::Empty
 }
 
-// Asks the lines in turn, from this one on, those that are ready first. It stops at the first that
-// gives something.
+/// Asks the lines in turn, from this one on, those that are ready first. It stops at the first that
+/// gives something.
 #[inline(always)]
 fn ask_in_turn<M: Drop>(
     lines: &mut [Option<LineTaker<M>>],

@@ -2,7 +2,7 @@
 ghost use Rattle.std.specs.Prelude.{◌<◌, ◌≤◌, length};
 ghost use Rattle.hub_fan.specs.Fans.{Drained, IfHanded};
 
-use crate::place::hand_back;
+use crate::places::hand_back;
 use hub_line::{LineTaken, LineTaker};
 
 /// A fan that was closed: it hands back what was posted and not taken, up to the end of each line.

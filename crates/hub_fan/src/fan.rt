@@ -1,4 +1,4 @@
-//! Up to 32 lines at one taker.
+//! Up to 32 lines at one taker, and what posts over each.
 ghost use Rattle.std.specs.Prelude.{◌≡◌, ◌≢◌, ◌<◌, ◌≤◌, ◌+◌, ℕ, length, max, slice_get, OnErr};
 ghost use Rattle.std.specs.Prelude.{OnOk};
 ghost use Rattle.hub_fan.specs.Fans.{IsFree, IsInUse};
@@ -7,11 +7,9 @@ use crate::OutOfMemory;
 use crate::asking::take_in_turn;
 use crate::closing::{ClosedFan, FanGrave};
 use crate::hints::{FanWords, Hints, bit_of};
-use crate::looking::{shut_all, some_has};
-use crate::poster::FanPoster;
-use crate::taken::FanTaken;
+use crate::places::{shut_all, some_has};
 use hub_channel::Armed;
-use hub_line::{LineTaker, open_line};
+use hub_line::{LinePoster, LineTaker, NotPosted, open_line};
 use std::alloc::Global;
 use std::sync::Arc;
 
@@ -41,7 +39,28 @@ pub struct Fan<M> {
     ghost few: { length lines.items ≤ 32 },
 }
 
-// The first place that is free; where none is, the one behind the last.
+/// What a take of a fan comes to.
+#[derive(Drop)]
+pub enum FanTaken<M> {
+    /// The line of this number gave a message.
+    Message(usize, M),
+    /// Each line was asked, and gave nothing.
+    Empty,
+    /// The line of this number has ended, and all that was posted there was taken: it is free.
+    Ended(usize),
+    /// The fan isn't started.
+    Disabled,
+}
+
+/// Posts over one line of a fan. Dropped, it ends the line and wakes nobody.
+#[derive(Drop)]
+pub struct FanPoster<M> {
+    pub(crate) to: LinePoster<M>,
+    pub(crate) bit: u64,
+    pub(crate) words: Arc<FanWords>,
+}
+
+/// The first place that is free; where none is, the one behind the last.
 fn free_place<M: Drop>(lines: &[Option<LineTaker<M>>]) -> usize
     ensures most { result ≤ length lines.now }
     ensures free { IsFree (slice_get lines.now result) }
@@ -55,7 +74,7 @@ fn free_place<M: Drop>(lines: &[Option<LineTaker<M>>]) -> usize
     lines.len()
 }
 
-// Puts a line into a place, or into a new one behind the last.
+/// Puts a line into a place, or into a new one behind the last.
 fn put<M: Drop>(
     lines: &mut Vec<Option<LineTaker<M>>>,
     line: usize,
@@ -82,7 +101,7 @@ impl<M: Drop> Fan<M> {
     ghost use Rattle.hub_fan.specs.Fans.{EachPlace, IfEnded, IfFrom, IsFree, IsInUse, Opens};
     ghost use Rattle.hub_fan.specs.Fans.{SomeShows, TookInTurn, next_after, with_ended};
     ghost use Rattle.hub_fan.specs.Places.{GivesNone, Keeps, Shuts};
-    ghost use Rattle.hub_fan.specs.declared.taken.FanTaken.TheVariants.{Disabled};
+    ghost use Rattle.hub_fan.specs.declared.fan.FanTaken.TheVariants.{Disabled};
     ghost use Rattle.hub_fan.specs.declared.fan.NotOpened.TheVariants.{Full};
 
     /// A fan with no line, which isn't started.
@@ -196,5 +215,33 @@ impl<M: Drop> Fan<M> {
             grave: FanGrave { lines },
             token: hints.words.disarm(),
         }
+    }
+}
+
+impl<M: Drop> FanPoster<M> {
+    ghost use Rattle.std.specs.Prelude.{◌≡◌, ◌↔◌, [], ◌∷◌, ◌++◌, OnOk, IfErr};
+    ghost use Rattle.hub_line.specs.Ends.{posted, IsOver, SamePoster};
+    ghost use Rattle.hub_line.specs.declared.poster.NotPosted.TheVariants.{Closed};
+
+    /// Posts a message, and answers whom to wake for it, or 0. After an error nothing was posted,
+    /// and the message comes back.
+    #[inline(always)]
+    pub fn post(&mut self, message: M) -> Result<u64, (NotPosted, M)>
+        ensures line { SamePoster self.old.to self.new.to }
+        ensures posted { OnOk result (posted self.new.to ≡ posted self.old.to ++ message ∷ []) }
+        ensures refused { IfErr result (λ e. (e.1 ≡ message)
+            × (posted self.new.to ≡ posted self.old.to)) }
+        ensures closed { IfErr result (λ e. (e.0 ≡ Closed) ↔ IsOver self.new.to) }
+    {
+        self.to.post(message)?;
+        Ok(self.words.ring(self.bit))
+    }
+
+    /// Gives the line back: the taker is told its end behind all that was posted. It answers whom
+    /// to wake, or 0.
+    pub fn close(self) -> u64 {
+        let FanPoster { to, bit, words } = self;
+        drop(to);
+        words.ring(bit)
     }
 }

@@ -20,15 +20,10 @@ mod asking;
 mod closing;
 mod fan;
 mod hints;
-mod looking;
-mod place;
-mod poster;
-mod taken;
+mod places;
 
 pub use closing::{ClosedFan, FanDrained, FanGrave};
-pub use fan::{Fan, NotOpened};
+pub use fan::{Fan, FanPoster, FanTaken, NotOpened};
 pub use hints::{FanWords, Hints};
 pub use hub_channel::Armed;
 pub use hub_line::{LineTaken, NotPosted, OutOfMemory};
-pub use poster::FanPoster;
-pub use taken::FanTaken;

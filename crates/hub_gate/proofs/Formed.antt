@@ -7,16 +7,16 @@ use Rattle.hub_core.specs.declared.line.Phase.{Phase}
 use Rattle.hub_core.specs.declared.line.Phase.TheVariants.{Out, Inside, Turned}
 use Rattle.hub_core.specs.GateMachine.{Gate, opened, is_shut, Steps, finds_moved, finds_closed, goes_in, goes_out, turns_back, enables, retires, closes, gave, is_open, is_busy, gives, Reached, opens, goes_on}
 use Rattle.hub_core.specs.GateMachine as machine
-use Rattle.hub_gate.specs.GateRule.{is_inside}
+use Rattle.hub_gate.specs.GateRule.{has_right_in_hand}
 use Rattle.hub_core.proofs.Items.{none_got, some_is, got_within, got_there, got_set, got-map, got_of-map}
 use Rattle.hub_gate.proofs.Got.{got_here, got_else}
 
 -- a line that isn't inside has its right at home until all are collected, which they are only in a gate that is moved or closed, with nobody inside
 pub record IsFormed {R : Type 0} (owns : ℕ → R → Type 0) (g : Gate R) : Type 0 where
   pub same : length g.homes ≡ length g.phases
-  pub home : g.collected ≡ false → (l : ℕ) (p : Phase) → slice_get g.phases l ≡ Some p → is_inside p ≡ false → (r : R) × (slice_get g.homes l ≡ Some (Some r)) × owns l r
+  pub home : g.collected ≡ false → (l : ℕ) (p : Phase) → slice_get g.phases l ≡ Some p → has_right_in_hand p ≡ false → (r : R) × (slice_get g.homes l ≡ Some (Some r)) × owns l r
   pub shut : g.collected ≡ true → is_shut g ≡ true
-  pub nobody : g.collected ≡ true → (l : ℕ) (p : Phase) → slice_get g.phases l ≡ Some p → is_inside p ≡ false
+  pub nobody : g.collected ≡ true → (l : ℕ) (p : Phase) → slice_get g.phases l ≡ Some p → has_right_in_hand p ≡ false
 
 -- no line weighs more than all
 pub weight_le : (ps : List Phase) (l : ℕ) (p : Phase) → slice_get ps l ≡ Some p → machine.weight p ≤ sum_by machine.weight ps
@@ -29,7 +29,7 @@ weight_le (q ∷ ps) (suc l) p e =
     omega (arith, sum_by-cons machine.weight q ps)
 
 -- where none is busy, none is inside
-pub not_inside : (p : Phase) → machine.weight p ≤ 0 → is_inside p ≡ false
+pub not_inside : (p : Phase) → machine.weight p ≤ 0 → has_right_in_hand p ≡ false
 not_inside Out h = refl
 not_inside Inside h = absurd (omega arith)
 not_inside Turned h = refl
@@ -49,16 +49,16 @@ module _ {R : Type 0} (owns : ℕ → R → Type 0) where
 
   module _ (g : Gate R) (formed : IsFormed owns g) where
     -- the line goes from a phase to another, and isn't inside in either
-    stays_out : (l : ℕ) (q w : Phase) → slice_get g.phases l ≡ Some q → is_inside q ≡ false → g.collected ≡ false → (k : ℕ) (p : Phase) → slice_get (set g.phases l w) k ≡ Some p → is_inside p ≡ false → (r : R) × (slice_get g.homes k ≡ Some (Some r)) × owns k r
+    stays_out : (l : ℕ) (q w : Phase) → slice_get g.phases l ≡ Some q → has_right_in_hand q ≡ false → g.collected ≡ false → (k : ℕ) (p : Phase) → slice_get (set g.phases l w) k ≡ Some p → has_right_in_hand p ≡ false → (r : R) × (slice_get g.homes k ≡ Some (Some r)) × owns k r
     stays_out l q w at not_in c k p there out = ⊎_elim
         (λ mine. formed.home c k q (subst (λ (i : ℕ). slice_get g.phases i ≡ Some q) (sym mine.0) at) not_in)
         (λ other. formed.home c k p other.1 out)
         (got_set g.phases l k w p there)
 
     -- where nobody is inside, the line goes to a phase that isn't inside either
-    stays_empty : (l : ℕ) (w : Phase) → is_inside w ≡ false → g.collected ≡ true → (k : ℕ) (p : Phase) → slice_get (set g.phases l w) k ≡ Some p → is_inside p ≡ false
+    stays_empty : (l : ℕ) (w : Phase) → has_right_in_hand w ≡ false → g.collected ≡ true → (k : ℕ) (p : Phase) → slice_get (set g.phases l w) k ≡ Some p → has_right_in_hand p ≡ false
     stays_empty l w not_in c k p there = ⊎_elim
-        (λ mine. sym (ap is_inside mine.1) ∙ not_in)
+        (λ mine. sym (ap has_right_in_hand mine.1) ∙ not_in)
         (λ other. formed.nobody c k p other.1)
         (got_set g.phases l k w p there)
 
@@ -76,7 +76,7 @@ module _ {R : Type 0} (owns : ℕ → R → Type 0) where
     steps g' (goes_in l r at m c there) = record {
       same = length-set g.homes l None ∙ formed.same ∙ sym (length-set g.phases l Inside);
       home = λ open_yet k p now out. ⊎_elim
-          (λ mine. absurd (true≢false (ap is_inside mine.1 ∙ out)))
+          (λ mine. absurd (true≢false (ap has_right_in_hand mine.1 ∙ out)))
           (λ other. let was = formed.home open_yet k p other.1 out in (was.0, got_else g.homes l k None other.0 ∙ was.1, was.2))
           (got_set g.phases l k Inside p now);
       shut = formed.shut;

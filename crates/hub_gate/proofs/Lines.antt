@@ -15,7 +15,7 @@ use Rattle.hub_gate.specs.declared.word.Flag.TheVariants as flag
 use Rattle.hub_gate.specs.declared.view.View.{View}
 use Rattle.hub_gate.specs.declared.view.View.TheVariants.{LineOut, LineInside, LineTurned}
 use Rattle.hub_gate.specs.declared.view.LineView.{LineView}
-use Rattle.hub_gate.specs.GateRule.{slot_of, Owns, is_inside, IsLine, Knows, ShowsGate, IsGate}
+use Rattle.hub_gate.specs.GateRule.{slot_of, Owns, has_right_in_hand, IsLine, Knows, ShowsGate, IsGate}
 use Rattle.atomic_table.specs.Seated.{TableId}
 use Rattle.hub_gate.specs.GateSeats.{EntrySeat, InsideSeat, line_in}
 use Rattle.hub_gate.specs.Entering.{IsLetIn, IsLetOut, left_seat}
@@ -65,7 +65,7 @@ module _ {T : Type 0} (tag : T → List ℕ) (s : State (Option T) (View T)) (sh
       ∙ counts_down shown.gate.enabled shown.gate.moved shown.gate.closed (sum_by machine.weight (set shown.gate.phases v.line phase.Out)) (omega arith))
 
   -- the line is in the phase q, whatever else its view shows
-  pub in_phase : (q : Phase) (homes : List (Option T)) (v' : LineView T) → v'.line ≡ v.line → v'.tag ≡ v.tag → (is_inside q ≡ false → shown.gate.collected ≡ false → slice_get homes v'.line ≡ Some v'.home) → IsLine shown.tags (after shown.gate v.line q homes) id v' q
+  pub in_phase : (q : Phase) (homes : List (Option T)) (v' : LineView T) → v'.line ≡ v.line → v'.tag ≡ v.tag → (has_right_in_hand q ≡ false → shown.gate.collected ≡ false → slice_get homes v'.line ≡ Some v'.home) → IsLine shown.tags (after shown.gate v.line q homes) id v' q
   in_phase q homes v' line_is tag_is home = record {
     stands = own.stands ∙ ap (λ (l : ℕ). l + 1) (sym line_is);
     at = ap (slice_get (set shown.gate.phases v.line q)) line_is ∙ got_here shown.gate.phases v.line q p own.at;

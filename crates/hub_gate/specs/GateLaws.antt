@@ -16,15 +16,15 @@ abbrev pub NoneInAfterRights : {T : Type 0} → (T → List ℕ) → Type 0
 NoneInAfterRights {T = T} tag = (tags : Tags) (g later : machine.Gate T) → machine.Reached (Owns tag tags) g → g.collected ≡ true → Follows (Owns tag tags) g later → IsOver (Owns tag tags) later
 
 -- words, slots and seats of a table as this rule has them
-abbrev pub Rule : Type 0 → Type 1
-Rule T = State (Option T) (View T) → Type 0
+abbrev pub WordRule : Type 0 → Type 1
+WordRule T = State (Option T) (View T) → Type 0
 
 -- where the rule holds, the table is one that isn't opened yet, or word, slots and seats show a state that the gate machine reaches
-abbrev pub RuleShowsGate : {T : Type 0} → (T → List ℕ) → Rule T → Type 0
+abbrev pub RuleShowsGate : {T : Type 0} → (T → List ℕ) → WordRule T → Type 0
 RuleShowsGate {T = T} tag holds = (s : State (Option T) (View T)) → holds s → IsGate tag s
 
 -- where the rule holds, no seat has a line inside while the keeper's has the rights
-abbrev pub NoSeatInAfterRights : {T : Type 0} → Rule T → Type 0
+abbrev pub NoSeatInAfterRights : {T : Type 0} → WordRule T → Type 0
 NoSeatInAfterRights {T = T} holds = (s : State (Option T) (View T)) → holds s → (keeper seat : ℕ) (k : KeeperView T) (v : LineView T) → get_elem? s.views keeper ≡ some (Keeping k) → k.collected ≡ true → ¬ (get_elem? s.views seat ≡ some (LineInside v))
 
 -- what each event makes of the word: it adds a line, takes one off, sets one bit or leaves the word

@@ -49,17 +49,17 @@ abbrev pub Owns : {T : Type 0} → (T → List ℕ) → Tags → ℕ → T → T
 Owns tag tags line right = slice_get tags line ≡ Some (tag right)
 
 -- a line in this phase has its right in hand
-abbrev pub is_inside : Phase → Bool
-is_inside phase.Out = false
-is_inside phase.Inside = true
-is_inside phase.Turned = false
+abbrev pub has_right_in_hand : Phase → Bool
+has_right_in_hand phase.Out = false
+has_right_in_hand phase.Inside = true
+has_right_in_hand phase.Turned = false
 
 -- the seat of a line stands behind the keeper's, and the line is in this phase. Until the rights are collected, a line that isn't inside has at home the right that its view shows.
 pub record IsLine {T : Type 0} (tags : Tags) (g : machine.Gate T) (seat : ℕ) (v : LineView T) (p : Phase) : Type 0 where
   pub stands : seat ≡ v.line + 1
   pub at : machine.IsAt g v.line p
   pub tag : slice_get tags v.line ≡ Some v.tag
-  pub home : is_inside p ≡ false → g.collected ≡ false → slice_get g.homes v.line ≡ Some v.home
+  pub home : has_right_in_hand p ≡ false → g.collected ≡ false → slice_get g.homes v.line ≡ Some v.home
 
 -- what the keeper's view shows of a gate with rights of these tags is so: the keeper has set the flags that are set, and the rights are collected where it has them
 pub record IsShownBy {T : Type 0} (k : KeeperView T) (all : Tags) (g : machine.Gate T) : Type 0 where

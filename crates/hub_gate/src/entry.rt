@@ -51,7 +51,7 @@ impl<T: Right> Model for Entry<T> {
         × (e.line ≡ (line_in e.seat.me.0).line) };
 }
 
-// Takes a line that was turned back off the word.
+/// Takes a line that was turned back off the word.
 fn turn_back<T: Right>(steps: &GateSteps<T>, seat: &mut GateSeat<T>)
     requires table { IsSeatOf steps.now.table_id seat.old.table_id }
     requires turned { seat.old.me ≡ (LineTurned (line_in seat.old.me.0), []) }

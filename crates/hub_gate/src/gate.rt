@@ -14,8 +14,8 @@ use crate::keeper::Keeper;
 use crate::plays::{Gather, Open};
 use crate::view::View;
 use atomic_table::{Seat, Shared, Split, Table, TableRule};
-use hub_envelope::MAX_LINES;
-use std::alloc::{AllocError, Global};
+use hub_envelope::{MAX_LINES, OutOfMemory};
+use std::alloc::Global;
 use std::marker::PhantomData;
 use std::snapshot::Snapshot;
 use std::sync::Arc;
@@ -101,8 +101,8 @@ struct Reserved<T: Right> {
     rights: Vec<T>,
 }
 
-// Asks for all the memory that a gate with these rights needs.
-fn reserve_for<T: Right>(alloc: Global, rights: &Vec<T>) -> Result<Reserved<T>, AllocError>
+/// Asks for all the memory that a gate with these rights needs.
+fn reserve_for<T: Right>(alloc: Global, rights: &Vec<T>) -> Result<Reserved<T>, OutOfMemory>
     ensures table { IfOk result (HasTable T.tag rights.now.items) }
     ensures seat { IfOk result (HasFreshSeat T.tag rights.now.items) }
     ensures shares { IfOk result (HasShares T.tag rights.now.items) }
@@ -127,7 +127,7 @@ fn reserve_for<T: Right>(alloc: Global, rights: &Vec<T>) -> Result<Reserved<T>, 
     })
 }
 
-// Puts each right in the slot of its line, where the seat has all slots in hand, in order.
+/// Puts each right in the slot of its line, where the seat has all slots in hand, in order.
 fn fill<T: Right>(slots: &GateSteps<T>, seat: &mut GateSeat<T>, mut rights: Vec<T>)
     requires here { seat.old.table_id ≡ slots.now.table_id }
     requires held { seat.old.me.1 ≡ numbered 0 (replicate (length rights.items) None) }
@@ -142,7 +142,7 @@ fn fill<T: Right>(slots: &GateSteps<T>, seat: &mut GateSeat<T>, mut rights: Vec<
     }
 }
 
-// Puts each right in its slot, and makes the first seat the keeper's.
+/// Puts each right in its slot, and makes the first seat the keeper's.
 fn put_home<T: Right>(slots: &GateSteps<T>, seat: &mut GateSeat<T>, rights: Vec<T>)
     requires table { IsSeatOf slots.now.table_id seat.old.table_id }
     requires slots { slots.now.table_id.slots ≡ length rights.items }
@@ -156,7 +156,7 @@ fn put_home<T: Right>(slots: &GateSteps<T>, seat: &mut GateSeat<T>, rights: Vec<
     slots.load::<Open>(seat, 0);
 }
 
-// Cuts a seat for each line off the keeper's, in order.
+/// Cuts a seat for each line off the keeper's, in order.
 fn seat_lines<T: Right>(
     table: &Arc<GateTable<T>>,
     seat: &mut GateSeat<T>,

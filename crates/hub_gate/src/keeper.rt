@@ -60,7 +60,7 @@ impl<T: Right> Model for Keeper<T> {
         × (k.seat.me.1 ≡ [])) };
 }
 
-// Takes the right out of each slot, where the seat has all slots in hand, in order.
+/// Takes the right out of each slot, where the seat has all slots in hand, in order.
 fn take_out<T: Right>(
     slots: &GateSteps<T>,
     seat: &mut GateSeat<T>,
@@ -81,7 +81,7 @@ fn take_out<T: Right>(
     }
 }
 
-// Frees a table that nobody has any more, with what is left in its slots.
+/// Frees a table that nobody has any more, with what is left in its slots.
 fn free<T: Right>(mut closed: Closed<Option<T>, Global>)
     requires { IsFull closed.slots }
 {
@@ -91,7 +91,7 @@ fn free<T: Right>(mut closed: Closed<Option<T>, Global>)
     closed.free();
 }
 
-// Sets a flag of the word, which is one step of the keeper's seat.
+/// Sets a flag of the word, which is one step of the keeper's seat.
 fn set_flag<T: Right>(steps: &GateSteps<T>, seat: &mut GateSeat<T>, flag: Flag)
     requires table { IsSeatOf steps.now.table_id seat.old.table_id }
     requires keeper { seat.old.me.0 ≡ Keeping (keeper_in seat.old.me.0) }

@@ -28,7 +28,7 @@ impl Flag {
 /// What each line that is inside or turning back adds to the word.
 pub(crate) const ONE_LINE: u64 = 256;
 
-// What the flag adds to a word in which it is set, or not.
+/// What the flag adds to a word in which it is set, or not.
 fn value_of(flag: Flag, is_set: bool) -> u64
     ensures { result ≡ flag_bit flag * machine.bit_of is_set }
 {
@@ -46,7 +46,7 @@ pub fn word_of(enabled: bool, moved: bool, closed: bool, count: u8) -> u64
     flags + count as u64 * ONE_LINE
 }
 
-// Whether the word has the flag.
+/// Whether the word has the flag.
 fn has_flag(word: u64, flag: Flag) -> bool
     ensures { result ≡ machine.has_bit word (flag_bit flag) }
 {

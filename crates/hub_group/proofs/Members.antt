@@ -5,7 +5,7 @@ use Rattle.std.proofs.lemmas.List.Quantifiers.{position-Some}
 use Rattle.std.proofs.lemmas.Bool.{eqb-true}
 use Rattle.std.proofs.lemmas.Option.{slice_get-get_or}
 use Rattle.hub_fan.proofs.Written.{each_written, written_beside, written_here}
-use Rattle.hub_group.specs.declared.answer.CastAnswer.{CastAnswer}
+use Rattle.hub_group.specs.declared.member.CastAnswer.{CastAnswer}
 use Rattle.hub_group.specs.declared.member.GroupMember.{GroupMember}
 use Rattle.hub_group.specs.Casts.{Casts, CastsAt, CastsAtEach, Leaves}
 

@@ -1,7 +1,7 @@
 -- What is seen of the members of a group, as a call begins and ends.
 use Rattle.std.specs.Prelude.{◌≡◌, ◌<◌, ◌⊎◌, ◌==◌, ℕ, Bool, MatchBool, List, [], ◌∷◌, ◌++◌, length, slice_get, Option, Some, None}
 use Rattle.hub_line.specs.Ends.{posted, IsOver, SamePoster}
-use Rattle.hub_group.specs.declared.answer.CastAnswer.{CastAnswer}
+use Rattle.hub_group.specs.declared.member.CastAnswer.{CastAnswer}
 use Rattle.hub_group.specs.declared.member.GroupMember.{GroupMember}
 
 module _ {M : Type 0} where

@@ -3,8 +3,7 @@ ghost use Rattle.std.specs.Prelude.{◌≡◌, ◌≢◌, ◌≤◌, ◌==◌, A
 ghost use Rattle.std.specs.Prelude.{slice_get};
 ghost use Rattle.hub_group.specs.Casts.{CastsAtEach};
 
-use crate::answer::CastAnswer;
-use crate::member::GroupMember;
+use crate::member::{CastAnswer, GroupMember};
 use hub_fan::FanPoster;
 use std::alloc::Global;
 
@@ -17,7 +16,7 @@ pub struct CastGroup<M> {
     ghost drawn: { All (λ m. m.number ≤ joined) members.items },
 }
 
-// Casts at each member. There is room for all answers.
+/// Casts at each member. There is room for all answers.
 fn cast_all<M: Copy + Drop>(
     members: &mut [GroupMember<M>],
     source: u64,
@@ -34,7 +33,7 @@ fn cast_all<M: Copy + Drop>(
     }
 }
 
-// The place of the member of this number.
+/// The place of the member of this number.
 fn place_of<M: Drop>(members: &[GroupMember<M>], number: u64) -> Option<usize>
     ensures place { result ≡ position (λ m. m.number == number) members.now }
     ensures none { IfNone result (All (λ m. m.number ≢ number) members.now) }

@@ -10,11 +10,9 @@
 //! ```
 #![tactic(auto)]
 
-mod answer;
 mod group;
 mod member;
 
-pub use answer::{CLOSED, CastAnswer, OUT_OF_MEMORY, POSTED, SOURCE};
 pub use group::CastGroup;
 pub use hub_fan::FanPoster;
-pub use member::GroupMember;
+pub use member::{CLOSED, CastAnswer, GroupMember, OUT_OF_MEMORY, POSTED, SOURCE};

@@ -5,12 +5,12 @@ use Rattle.std.specs.Result.{result_unwrap_or}
 use Rattle.std.proofs.lemmas.Bool.Decides.{nat_tests}
 use Rattle.hub_life.specs.declared.life.State.{State}
 use Rattle.hub_life.specs.declared.life.State.TheVariants.{Parsed, Installing, Installed, Activating, Activated, Redundant}
-use Rattle.hub_life.specs.declared.event.Event.{Event}
-use Rattle.hub_life.specs.declared.event.Event.TheVariants.{Install, Activate, Extend, Settle, Fail, Returned, Discard, Terminate}
+use Rattle.hub_life.specs.declared.life.Event.{Event}
+use Rattle.hub_life.specs.declared.life.Event.TheVariants.{Install, Activate, Extend, Settle, Fail, Returned, Discard, Terminate}
 use Rattle.hub_life.specs.declared.life.LifeError.{LifeError}
 use Rattle.hub_life.specs.declared.life.LifeError.TheVariants.{WrongState, TooManyExtensions, NoExtension}
 use Rattle.hub_envelope.specs.declared.limits.TheConstants.{MAX_EXTENSIONS}
-use Rattle.hub_life.specs.Lifecycle.{Progress, Cell, wrong, to, plus, minus, done, handles, entered, start, row, cell, at_cell, state_after, settled, is_failure}
+use Rattle.hub_life.specs.Lifecycle.{Progress, Cell, wrong, to, plus, minus, done, handles, entered, start, cell_at, cell, at_cell, state_after, settled, is_failure}
 use Rattle.hub_life.specs.Course.{after, after_all, stage_of, is_waiting, IsSound}
 
 -- both values of a choice
@@ -19,15 +19,15 @@ either_way F true x y chosen other = chosen refl
 either_way F false x y chosen other = other refl
 
 -- what holds of each cell of a row holds at the column of any event
-row-keeps : (P : Cell → Type 0) (a b c d e f g : Cell) → P a → P b → P c → P d → P e → P f → P g → (event : Event) → P (row a b c d e f g event)
-row-keeps P a b c d e f g pa pb pc pd pe pf pg Install = pa
-row-keeps P a b c d e f g pa pb pc pd pe pf pg Activate = pb
-row-keeps P a b c d e f g pa pb pc pd pe pf pg Extend = pc
-row-keeps P a b c d e f g pa pb pc pd pe pf pg Settle = pd
-row-keeps P a b c d e f g pa pb pc pd pe pf pg Fail = pd
-row-keeps P a b c d e f g pa pb pc pd pe pf pg Returned = pe
-row-keeps P a b c d e f g pa pb pc pd pe pf pg Discard = pf
-row-keeps P a b c d e f g pa pb pc pd pe pf pg Terminate = pg
+cell_at-keeps : (P : Cell → Type 0) (a b c d e f g : Cell) → P a → P b → P c → P d → P e → P f → P g → (event : Event) → P (cell_at a b c d e f g event)
+cell_at-keeps P a b c d e f g pa pb pc pd pe pf pg Install = pa
+cell_at-keeps P a b c d e f g pa pb pc pd pe pf pg Activate = pb
+cell_at-keeps P a b c d e f g pa pb pc pd pe pf pg Extend = pc
+cell_at-keeps P a b c d e f g pa pb pc pd pe pf pg Settle = pd
+cell_at-keeps P a b c d e f g pa pb pc pd pe pf pg Fail = pd
+cell_at-keeps P a b c d e f g pa pb pc pd pe pf pg Returned = pe
+cell_at-keeps P a b c d e f g pa pb pc pd pe pf pg Discard = pf
+cell_at-keeps P a b c d e f g pa pb pc pd pe pf pg Terminate = pg
 
 -- a worker with one extension more, with one less, and with its handler returned
 abbrev opened : Progress → Progress
@@ -101,12 +101,12 @@ sound_in state p event is sound = at_cell-leads IsSound (cell state event) p eve
     returns busy = (sound, settled-sound (returned p) busy limit)
 
     there : (s : State) → p.state ≡ s → (e : Event) → Leads IsSound p (cell s e)
-    there Parsed at e = row-keeps (Leads IsSound p) _ _ _ _ _ _ _ (entered-sound Installing) sound sound sound sound sound (entered-sound Parsed) e
-    there Installing at e = row-keeps (Leads IsSound p) _ _ _ _ _ _ _ sound sound (opens (ap handles at)) (closes (ap handles at)) (returns (ap handles at)) sound (entered-sound Redundant) e
-    there Installed at e = row-keeps (Leads IsSound p) _ _ _ _ _ _ _ sound (entered-sound Activating) sound sound sound (entered-sound Redundant) (entered-sound Installed) e
-    there Activating at e = row-keeps (Leads IsSound p) _ _ _ _ _ _ _ sound sound (opens (ap handles at)) (closes (ap handles at)) (returns (ap handles at)) sound (entered-sound Activated) e
-    there Activated at e = row-keeps (Leads IsSound p) _ _ _ _ _ _ _ sound sound sound sound sound (entered-sound Redundant) (entered-sound Activated) e
-    there Redundant at e = row-keeps (Leads IsSound p) _ _ _ _ _ _ _ sound sound sound sound sound sound (entered-sound Redundant) e
+    there Parsed at e = cell_at-keeps (Leads IsSound p) _ _ _ _ _ _ _ (entered-sound Installing) sound sound sound sound sound (entered-sound Parsed) e
+    there Installing at e = cell_at-keeps (Leads IsSound p) _ _ _ _ _ _ _ sound sound (opens (ap handles at)) (closes (ap handles at)) (returns (ap handles at)) sound (entered-sound Redundant) e
+    there Installed at e = cell_at-keeps (Leads IsSound p) _ _ _ _ _ _ _ sound (entered-sound Activating) sound sound sound (entered-sound Redundant) (entered-sound Installed) e
+    there Activating at e = cell_at-keeps (Leads IsSound p) _ _ _ _ _ _ _ sound sound (opens (ap handles at)) (closes (ap handles at)) (returns (ap handles at)) sound (entered-sound Activated) e
+    there Activated at e = cell_at-keeps (Leads IsSound p) _ _ _ _ _ _ _ sound sound sound sound sound (entered-sound Redundant) (entered-sound Activated) e
+    there Redundant at e = cell_at-keeps (Leads IsSound p) _ _ _ _ _ _ _ sound sound sound sound sound sound (entered-sound Redundant) e
 
 sound_from : (p : Progress) (events : List Event) → IsSound p → IsSound (after_all p events)
 sound_from p [] sound = sound
@@ -140,12 +140,12 @@ forward p event = at_cell-leads (IsAhead p.state) (cell p.state event) p event (
     ahead s t at h = subst (λ (u : State). stage_of u ≤ stage_of t) (sym at) h
 
     there : (s : State) → p.state ≡ s → (e : Event) → Leads (IsAhead p.state) p (cell s e)
-    there Parsed at e = row-keeps (Leads (IsAhead p.state) p) _ _ _ _ _ _ _ (ahead Parsed Installing at (omega arith)) stays stays stays stays stays (ahead Parsed Parsed at (omega arith)) e
-    there Installing at e = row-keeps (Leads (IsAhead p.state) p) _ _ _ _ _ _ _ stays stays (λ _. stays) (λ fails. settles (closed p fails) refl) (stays, settles (returned p) refl) stays (ahead Installing Redundant at (omega arith)) e
-    there Installed at e = row-keeps (Leads (IsAhead p.state) p) _ _ _ _ _ _ _ stays (ahead Installed Activating at (omega arith)) stays stays stays (ahead Installed Redundant at (omega arith)) (ahead Installed Installed at (omega arith)) e
-    there Activating at e = row-keeps (Leads (IsAhead p.state) p) _ _ _ _ _ _ _ stays stays (λ _. stays) (λ fails. settles (closed p fails) refl) (stays, settles (returned p) refl) stays (ahead Activating Activated at (omega arith)) e
-    there Activated at e = row-keeps (Leads (IsAhead p.state) p) _ _ _ _ _ _ _ stays stays stays stays stays (ahead Activated Redundant at (omega arith)) (ahead Activated Activated at (omega arith)) e
-    there Redundant at e = row-keeps (Leads (IsAhead p.state) p) _ _ _ _ _ _ _ stays stays stays stays stays stays (ahead Redundant Redundant at (omega arith)) e
+    there Parsed at e = cell_at-keeps (Leads (IsAhead p.state) p) _ _ _ _ _ _ _ (ahead Parsed Installing at (omega arith)) stays stays stays stays stays (ahead Parsed Parsed at (omega arith)) e
+    there Installing at e = cell_at-keeps (Leads (IsAhead p.state) p) _ _ _ _ _ _ _ stays stays (λ _. stays) (λ fails. settles (closed p fails) refl) (stays, settles (returned p) refl) stays (ahead Installing Redundant at (omega arith)) e
+    there Installed at e = cell_at-keeps (Leads (IsAhead p.state) p) _ _ _ _ _ _ _ stays (ahead Installed Activating at (omega arith)) stays stays stays (ahead Installed Redundant at (omega arith)) (ahead Installed Installed at (omega arith)) e
+    there Activating at e = cell_at-keeps (Leads (IsAhead p.state) p) _ _ _ _ _ _ _ stays stays (λ _. stays) (λ fails. settles (closed p fails) refl) (stays, settles (returned p) refl) stays (ahead Activating Activated at (omega arith)) e
+    there Activated at e = cell_at-keeps (Leads (IsAhead p.state) p) _ _ _ _ _ _ _ stays stays stays stays stays (ahead Activated Redundant at (omega arith)) (ahead Activated Activated at (omega arith)) e
+    there Redundant at e = cell_at-keeps (Leads (IsAhead p.state) p) _ _ _ _ _ _ _ stays stays stays stays stays stays (ahead Redundant Redundant at (omega arith)) e
 
 -- a failed install
 abbrev HasFailed : Progress → Type 0
@@ -161,11 +161,11 @@ failed_after : (p : Progress) (event : Event) → HasFailed p → HasFailed (aft
 failed_after p event (inl h) =
     subst (λ (s : State). HasFailed (result_unwrap_or (at_cell (cell s event) p event) p)) (sym h.0)
     (at_cell-leads HasFailed (cell Installing event) p event (inl h)
-    (row-keeps (Leads HasFailed p) _ _ _ _ _ _ _ (inl h) (inl h) (λ _. inl h) (λ fails. settled-failed (closed p fails) h.0 (or_left p.failed fails h.1)) (inl h, settled-failed (returned p) h.0 h.1) (inl h) (inr refl) event))
+    (cell_at-keeps (Leads HasFailed p) _ _ _ _ _ _ _ (inl h) (inl h) (λ _. inl h) (λ fails. settled-failed (closed p fails) h.0 (or_left p.failed fails h.1)) (inl h, settled-failed (returned p) h.0 h.1) (inl h) (inr refl) event))
 failed_after p event (inr h) =
     subst (λ (s : State). HasFailed (result_unwrap_or (at_cell (cell s event) p event) p)) (sym h)
     (at_cell-leads HasFailed (cell Redundant event) p event (inr h)
-    (row-keeps (Leads HasFailed p) _ _ _ _ _ _ _ (inr h) (inr h) (inr h) (inr h) (inr h) (inr h) (inr refl) event))
+    (cell_at-keeps (Leads HasFailed p) _ _ _ _ _ _ _ (inr h) (inr h) (inr h) (inr h) (inr h) (inr h) (inr refl) event))
 
 failed_from : (p : Progress) (events : List Event) → HasFailed p → HasFailed (after_all p events)
 failed_from p [] h = h
@@ -185,4 +185,4 @@ pub activation : (p : Progress) (event : Event) → p.state ≡ Activating → I
 activation p event at =
     subst (λ (s : State). IsOnItsWay (result_unwrap_or (at_cell (cell s event) p event) p)) (sym at)
     (at_cell-leads IsOnItsWay (cell Activating event) p event (inl at)
-    (row-keeps (Leads IsOnItsWay p) _ _ _ _ _ _ _ (inl at) (inl at) (λ _. inl at) (λ fails. settled-on_its_way (closed p fails) at) (inl at, settled-on_its_way (returned p) at) (inl at) (inr refl) event))
+    (cell_at-keeps (Leads IsOnItsWay p) _ _ _ _ _ _ _ (inl at) (inl at) (λ _. inl at) (λ fails. settled-on_its_way (closed p fails) at) (inl at, settled-on_its_way (returned p) at) (inl at) (inr refl) event))

@@ -8,7 +8,7 @@ use lib.ListN.{get_elem?}
 use Rattle.atomic_table.specs.Table.{State, Me, step, keeps, stepped, opening, Allows, Splits}
 use Rattle.atomic_table.proofs.Lists.{at_set, at_snoc, set_again}
 use Rattle.hub_life.specs.declared.order.OrderView.{OrderView}
-use Rattle.hub_life.specs.Order.{unaware, gives_in, order_word, IsOrderKept, Gives, Looks}
+use Rattle.hub_life.specs.Order.{unaware, gives_in, order_word, IsOrderKept, GivesOrder, LooksForOrder}
 
 -- a sum after a change of one item
 pub sum_by-at_set : {A : Type 0} (f : A → ℕ) (l : List A) (i : ℕ) (v w : A) → get_elem? l i ≡ some v → sum_by f (set l i w) + f v ≡ sum_by f l + f w
@@ -95,7 +95,7 @@ cuts id v s kept at =
     total : gives_in (s.views ++ unaware ∷ []) ≡ gives_in s.views
     total = omega (arith, sum_by-append (λ (w : OrderView). w.gives) s.views (unaware ∷ []))
 
-pub gives_keep : (slots id : ℕ) (me : Own) → Allows IsOrderKept slots id me 0 (λ n. bit_or n 1) (Gives (step slots 0 1 0 none) me)
+pub gives_keep : (slots id : ℕ) (me : Own) → Allows IsOrderKept slots id me 0 (λ n. bit_or n 1) (GivesOrder (step slots 0 1 0 none) me)
 gives_keep slots id me s kept fits at small =
     let v = me.0 in
     let w : OrderView = record { gives = v.gives + 1; looks = v.looks; found = v.found } in
@@ -103,7 +103,7 @@ gives_keep slots id me s kept fits at small =
     let more : gives_in (set s.views id w) ≡ suc (gives_in s.views) = omega arith in
     (w, keeps, tt, placed s kept (bit_or (get_or s.words 0 0) 1) id me w at (omega arith) (set_bit (gives_in s.views) (get_or s.words 0 0) kept.word ∙ sym (one_where_given (gives_in (set s.views id w)) (order_word (gives_in (set s.views id w))) refl (omega arith))) (λ _. omega arith), refl)
 
-pub looks_keep : (slots id : ℕ) (me : Own) → Allows IsOrderKept slots id me 0 (λ n. n) (Looks (step slots 0 0 0 none) me)
+pub looks_keep : (slots id : ℕ) (me : Own) → Allows IsOrderKept slots id me 0 (λ n. n) (LooksForOrder (step slots 0 0 0 none) me)
 looks_keep slots id me s kept fits at small =
     let v = me.0 in
     let n : ℕ = get_or s.words 0 0 in

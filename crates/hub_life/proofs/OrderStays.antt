@@ -7,8 +7,8 @@ use mathlib.Core.Option.{some}
 use lib.ListN.{get_elem?}
 use Rattle.atomic_table.proofs.Lists.{at_index}
 use Rattle.hub_life.specs.declared.order.OrderView.{OrderView}
-use Rattle.hub_life.specs.Order.{unaware, gives_in, order_word, IsOrderKept, Gives, Looks}
-use Rattle.hub_life.specs.OrderLaws.{Shared, IsGiven, RuleShowsOrder, Steps, gives, looks, cuts, none_yet, one_more, IsStillGiven, StaysGiven}
+use Rattle.hub_life.specs.Order.{unaware, gives_in, order_word, IsOrderKept, GivesOrder, LooksForOrder}
+use Rattle.hub_life.specs.OrderLaws.{Shared, IsOrderGiven, RuleShowsOrder, Steps, gives, looks, cuts, none_yet, one_more, IsStillGiven, StaysGiven}
 use Rattle.hub_life.proofs.OrderKept.{sum_by-at_set, weight_le_sum_by}
 
 -- a sum that isn't 0 has an item that isn't
@@ -26,10 +26,10 @@ some_positive f (x ∷ xs) more = positive_head f x xs (f x) refl (some_positive
 there : {A : Type 0} (P : A → Type 0) (l : List A) (any : Any P l) → get_elem? l any.0 ≡ some any.1
 there P l any = at_index l any.0 any.1 any.2 (sym any.3)
 
-given_where_gave : (s : Shared) → 0 < gives_in s.views → IsGiven s
+given_where_gave : (s : Shared) → 0 < gives_in s.views → IsOrderGiven s
 given_where_gave s more = some_positive (λ (v : OrderView). v.gives) s.views more
 
-gave_where_given : (s : Shared) → IsGiven s → 0 < gives_in s.views
+gave_where_given : (s : Shared) → IsOrderGiven s → 0 < gives_in s.views
 gave_where_given s given =
     let least = weight_le_sum_by (λ (v : OrderView). v.gives) s.views given.0 given.1 (there _ s.views given) in
     omega (arith, given.4)
@@ -63,7 +63,7 @@ shows s kept = record {
 }
 
 -- no step takes a gift away
-no_less : {left right : OrderView → OrderView} (s later : Shared) → ((v : OrderView) → v.gives ≤ (left v).gives) → Steps Gives Looks left right s later → gives_in s.views ≤ gives_in later.views
+no_less : {left right : OrderView → OrderView} (s later : Shared) → ((v : OrderView) → v.gives ≤ (left v).gives) → Steps GivesOrder LooksForOrder left right s later → gives_in s.views ≤ gives_in later.views
 no_less s later keeps (gives slots seat me w act at valid told) =
     let sum = sum_by-at_set (λ (v : OrderView). v.gives) s.views seat me.0 w at in
     let more : w.gives ≡ me.0.gives + 1 = ap (λ (v : OrderView). v.gives) told in
@@ -83,10 +83,10 @@ still_given s later kept kept_later more = record {
   word = λ one. (shows later kept_later).set.1 (given ((shows s kept).set.0 one));
 }
   where
-    given : IsGiven s → IsGiven later
+    given : IsOrderGiven s → IsOrderGiven later
     given was = let some_gave = gave_where_given s was in given_where_gave later (omega arith)
 
-pub stays : StaysGiven IsOrderKept Gives Looks (λ v. v) (λ _. unaware)
+pub stays : StaysGiven IsOrderKept GivesOrder LooksForOrder (λ v. v) (λ _. unaware)
 stays s later kept none_yet = record { given = λ was. was; word = λ one. one }
 stays s later kept (one_more {next = next} stepped kept_next more) =
     let here = still_given s next kept kept_next (no_less s next (λ v. omega arith) stepped) in

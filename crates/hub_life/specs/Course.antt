@@ -3,7 +3,7 @@ use Rattle.std.specs.Prelude.{◌≡◌, ℕ, ◌≤◌, ◌||◌, Bool, false, 
 use Rattle.std.specs.Result.{result_unwrap_or}
 use Rattle.hub_life.specs.declared.life.State.{State}
 use Rattle.hub_life.specs.declared.life.State.TheVariants.{Parsed, Installing, Installed, Activating, Activated, Redundant}
-use Rattle.hub_life.specs.declared.event.Event.{Event}
+use Rattle.hub_life.specs.declared.life.Event.{Event}
 use Rattle.hub_envelope.specs.declared.limits.TheConstants.{MAX_EXTENSIONS}
 use Rattle.hub_life.specs.Lifecycle.{Progress, handles, entered, answer}
 

@@ -3,8 +3,8 @@
 use Rattle.std.specs.Prelude.{ℕ, ◌+◌, ◌-◌, ◌||◌, Bool, true, false, Result, Ok, Err, nat_lt, if◌then◌else◌}
 use Rattle.hub_life.specs.declared.life.State.{State}
 use Rattle.hub_life.specs.declared.life.State.TheVariants.{Parsed, Installing, Installed, Activating, Activated, Redundant}
-use Rattle.hub_life.specs.declared.event.Event.{Event}
-use Rattle.hub_life.specs.declared.event.Event.TheVariants.{Install, Activate, Extend, Settle, Fail, Returned, Discard, Terminate}
+use Rattle.hub_life.specs.declared.life.Event.{Event}
+use Rattle.hub_life.specs.declared.life.Event.TheVariants.{Install, Activate, Extend, Settle, Fail, Returned, Discard, Terminate}
 use Rattle.hub_life.specs.declared.life.LifeError.{LifeError}
 use Rattle.hub_life.specs.declared.life.LifeError.TheVariants.{WrongState, TooManyExtensions, NoExtension}
 use Rattle.hub_envelope.specs.declared.limits.TheConstants.{MAX_EXTENSIONS}
@@ -47,24 +47,24 @@ pub data Cell : Type 0 where
   done : Cell
 
 -- a row of the table, read at the column of an event
-abbrev pub row : Cell → Cell → Cell → Cell → Cell → Cell → Cell → Event → Cell
-row install activate extend settle_or_fail returned discard terminate Install = install
-row install activate extend settle_or_fail returned discard terminate Activate = activate
-row install activate extend settle_or_fail returned discard terminate Extend = extend
-row install activate extend settle_or_fail returned discard terminate Settle = settle_or_fail
-row install activate extend settle_or_fail returned discard terminate Fail = settle_or_fail
-row install activate extend settle_or_fail returned discard terminate Returned = returned
-row install activate extend settle_or_fail returned discard terminate Discard = discard
-row install activate extend settle_or_fail returned discard terminate Terminate = terminate
+abbrev pub cell_at : Cell → Cell → Cell → Cell → Cell → Cell → Cell → Event → Cell
+cell_at install activate extend settle_or_fail returned discard terminate Install = install
+cell_at install activate extend settle_or_fail returned discard terminate Activate = activate
+cell_at install activate extend settle_or_fail returned discard terminate Extend = extend
+cell_at install activate extend settle_or_fail returned discard terminate Settle = settle_or_fail
+cell_at install activate extend settle_or_fail returned discard terminate Fail = settle_or_fail
+cell_at install activate extend settle_or_fail returned discard terminate Returned = returned
+cell_at install activate extend settle_or_fail returned discard terminate Discard = discard
+cell_at install activate extend settle_or_fail returned discard terminate Terminate = terminate
 
 -- the table. The cells of a row stand under: install, activate, extend, settle and fail, returned, discard, terminate
 abbrev pub cell : State → Event → Cell
-cell Parsed = row (to Installing) wrong wrong wrong wrong wrong (to Parsed)
-cell Installing = row wrong wrong plus minus done wrong (to Redundant)
-cell Installed = row wrong (to Activating) wrong wrong wrong (to Redundant) (to Installed)
-cell Activating = row wrong wrong plus minus done wrong (to Activated)
-cell Activated = row wrong wrong wrong wrong wrong (to Redundant) (to Activated)
-cell Redundant = row wrong wrong wrong wrong wrong wrong (to Redundant)
+cell Parsed = cell_at (to Installing) wrong wrong wrong wrong wrong (to Parsed)
+cell Installing = cell_at wrong wrong plus minus done wrong (to Redundant)
+cell Installed = cell_at wrong (to Activating) wrong wrong wrong (to Redundant) (to Installed)
+cell Activating = cell_at wrong wrong plus minus done wrong (to Activated)
+cell Activated = cell_at wrong wrong wrong wrong wrong (to Redundant) (to Activated)
+cell Redundant = cell_at wrong wrong wrong wrong wrong wrong (to Redundant)
 
 -- the state after an event that is handled: a failed install makes the worker redundant, and a failed activation changes nothing
 abbrev pub state_after : State → Bool → State

@@ -28,10 +28,10 @@ pub record IsOrderKept (s : State (Unit {0}) OrderView) : Type 0 where
   pub given : (seat : ℕ) (v : OrderView) → get_elem? s.views seat ≡ some v → v.found ≡ true → 0 < gives_in s.views
 
 -- the seat has given the order once more
-abbrev pub Gives : Step (Unit {0}) → Me (Unit {0}) OrderView → ℕ → Me (Unit {0}) OrderView → Type 0
-Gives step before found after = after.0 ≡ record { gives = before.0.gives + 1; looks = before.0.looks; found = before.0.found }
+abbrev pub GivesOrder : Step (Unit {0}) → Me (Unit {0}) OrderView → ℕ → Me (Unit {0}) OrderView → Type 0
+GivesOrder step before found after = after.0 ≡ record { gives = before.0.gives + 1; looks = before.0.looks; found = before.0.found }
 
 -- the seat has looked once more, and has found the order where the word was 1, which it was if the seat was aware of the order
-pub record Looks (step : Step (Unit {0})) (before : Me (Unit {0}) OrderView) (found : ℕ) (after : Me (Unit {0}) OrderView) : Type 0 where
+pub record LooksForOrder (step : Step (Unit {0})) (before : Me (Unit {0}) OrderView) (found : ℕ) (after : Me (Unit {0}) OrderView) : Type 0 where
   pub view : after.0 ≡ record { gives = before.0.gives; looks = before.0.looks + 1; found = (found == 1) }
   pub stays : is_aware before.0 ≡ true → found ≡ 1

@@ -14,30 +14,30 @@ abbrev pub Own : Type 0
 Own = Me (Unit {0}) OrderView
 
 -- what a step tells its seat
-abbrev pub Tells : Type 1
-Tells = Step (Unit {0}) → Own → ℕ → Own → Type 0
+abbrev pub OrderTells : Type 1
+OrderTells = Step (Unit {0}) → Own → ℕ → Own → Type 0
 
 -- some seat has given the order
-abbrev pub IsGiven : Shared → Type 0
-IsGiven s = Any (λ (v : OrderView). 0 < v.gives) s.views
+abbrev pub IsOrderGiven : Shared → Type 0
+IsOrderGiven s = Any (λ (v : OrderView). 0 < v.gives) s.views
 
 -- the last look of some seat found the order
-abbrev pub IsFound : Shared → Type 0
-IsFound s = Any (λ (v : OrderView). IsTrue v.found) s.views
+abbrev pub IsOrderFound : Shared → Type 0
+IsOrderFound s = Any (λ (v : OrderView). IsTrue v.found) s.views
 
 -- the one word is 1 exactly where some seat has given the order, and else 0, and a seat has found the order only where some seat gave it
 pub record ShowsOrder (s : Shared) : Type 0 where
   pub one : length s.words ≡ 1
-  pub set : (slice_index s.words 0 ≡ 1) ↔ IsGiven s
-  pub clear : (slice_index s.words 0 ≡ 0) ↔ (¬ IsGiven s)
-  pub found : IsFound s → IsGiven s
+  pub set : (slice_index s.words 0 ≡ 1) ↔ IsOrderGiven s
+  pub clear : (slice_index s.words 0 ≡ 0) ↔ (¬ IsOrderGiven s)
+  pub found : IsOrderFound s → IsOrderGiven s
 
 -- the rule shows the order
 abbrev pub RuleShowsOrder : (Shared → Type 0) → Type 0
 RuleShowsOrder holds = (s : Shared) → holds s → ShowsOrder s
 
 -- the steps of the seats at a word, by what a gift and a look tell their seat, and what a cut leaves it and gives the new one
-module _ (give look : Tells) (left right : OrderView → OrderView) where
+module _ (give look : OrderTells) (left right : OrderView → OrderView) where
   -- one step of some seat: a gift sets the word's lowest bit, a look leaves the word as it is, and a cut makes one seat more
   pub data Steps : Shared → Shared → Type 0 where
     gives : {s : Shared} (slots seat : ℕ) (me : Own) (w : OrderView) (act : Act (Unit {0})) → get_elem? s.views seat ≡ some me.0 → Valid s.homes me.1 act
@@ -54,9 +54,9 @@ module _ (give look : Tells) (left right : OrderView → OrderView) where
 
 -- what was given stays given, and the word that was 1 stays 1
 pub record IsStillGiven (s later : Shared) : Type 0 where
-  pub given : IsGiven s → IsGiven later
+  pub given : IsOrderGiven s → IsOrderGiven later
   pub word : slice_index s.words 0 ≡ 1 → slice_index later.words 0 ≡ 1
 
 -- whatever steps follow where the rule holds, what was given stays given
-abbrev pub StaysGiven : (Shared → Type 0) → Tells → Tells → (OrderView → OrderView) → (OrderView → OrderView) → Type 0
+abbrev pub StaysGiven : (Shared → Type 0) → OrderTells → OrderTells → (OrderView → OrderView) → (OrderView → OrderView) → Type 0
 StaysGiven holds give look left right = (s later : Shared) → holds s → Follows give look left right holds s later → IsStillGiven s later

@@ -11,8 +11,8 @@ pub record OrderSeat : Type 0 where
   pub found : Bool
 
 -- the seat at a word that knows this
-abbrev pub seat_of : TableId → OrderView → OrderSeat
-seat_of word v = record { word = word; gives = v.gives; looks = v.looks; found = v.found }
+abbrev pub order_seat : TableId → OrderView → OrderSeat
+order_seat word v = record { word = word; gives = v.gives; looks = v.looks; found = v.found }
 
 -- a seat that has done nothing yet
 abbrev pub new_seat : TableId → OrderSeat

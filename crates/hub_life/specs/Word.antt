@@ -1,7 +1,7 @@
 -- The words by which events of a worker's life are named in text.
 use Rattle.std.specs.Prelude.{ℕ, List, Option, Some, None, codes, bytes_eq, if◌then◌else◌}
-use Rattle.hub_life.specs.declared.event.Event.{Event}
-use Rattle.hub_life.specs.declared.event.Event.TheVariants as life
+use Rattle.hub_life.specs.declared.life.Event.{Event}
+use Rattle.hub_life.specs.declared.life.Event.TheVariants as life
 
 -- the words of the events of a worker's life
 abbrev pub event_of : List ℕ → Option Event

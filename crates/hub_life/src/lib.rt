@@ -5,13 +5,9 @@
 //! find it.
 #![tactic(auto)]
 
-mod event;
-mod laws;
 mod life;
 mod order;
 
-pub use event::Event;
-pub use laws::{lifecycle_laws, order_laws};
-pub use life::{Life, LifeError, State};
-pub use order::Order;
-pub use std::alloc::AllocError as OutOfMemory;
+pub use hub_envelope::OutOfMemory;
+pub use life::{Event, Life, LifeError, State, lifecycle_laws};
+pub use order::{Order, order_laws};

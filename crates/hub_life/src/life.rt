@@ -1,9 +1,54 @@
-ghost use Rattle.std.specs.Prelude.{◌≡◌, IfOk, IfErr, OnOk};
+ghost use Rattle.std.specs.Prelude.{◌≡◌, IfOk, IfErr, OnOk, ◌≤◌, ◌⊎◌, List, true};
+ghost use Rattle.hub_life.specs.Word.{event_of};
+ghost use Rattle.hub_life.specs.declared.life.Event.{Event};
+ghost use Rattle.hub_life.specs.declared.life.State.TheVariants.{Installing, Activating, Activated};
+ghost use Rattle.hub_life.specs.declared.life.State.TheVariants.{Redundant};
+ghost use Rattle.hub_life.specs.Lifecycle.{Progress, start};
+ghost use Rattle.hub_life.specs.Course.{after, after_all, stage_of, IsSound};
 
-use crate::event::Event;
 use hub_envelope::MAX_EXTENSIONS;
 use std::marker::Model;
 use thiserror::Error;
+
+/// What may happen to a service worker.
+#[derive(Clone, Copy, Debug, PartialEq, Eq, Hash)]
+pub enum Event {
+    /// The install event is dispatched.
+    Install,
+    /// The activate event is dispatched.
+    Activate,
+    /// The handler extends its event by one more promise (`waitUntil`).
+    Extend,
+    /// The promise of an open extension was fulfilled.
+    Settle,
+    /// The promise of an open extension was rejected.
+    Fail,
+    /// The handler returned.
+    Returned,
+    /// The registration gives the worker up.
+    Discard,
+    /// The worker is terminated by force.
+    Terminate,
+}
+
+impl Event {
+    /// The event that the word names.
+    pub fn named(word: &str) -> Option<Event>
+        ensures { result ≡ event_of word.now }
+    {
+        match word {
+            "install" => Some(Event::Install),
+            "activate" => Some(Event::Activate),
+            "extend" => Some(Event::Extend),
+            "settle" => Some(Event::Settle),
+            "fail" => Some(Event::Fail),
+            "returned" => Some(Event::Returned),
+            "discard" => Some(Event::Discard),
+            "terminate" => Some(Event::Terminate),
+            _ => None,
+        }
+    }
+}
 
 /// The state of a service worker (W3C Service Workers, "Service Worker"). A new one is parsed.
 #[derive(Clone, Copy, Debug, PartialEq, Eq, Hash)]
@@ -75,6 +120,7 @@ impl Life {
         }
     }
 
+    /// The state that the worker is in (W3C Service Workers, "Service Worker", its state).
     pub fn state(&self) -> State
         ensures { result ≡ self.now.state }
     {
@@ -171,7 +217,7 @@ impl Life {
         Ok(())
     }
 
-    // Enters the next state once nothing of the event is left to wait for.
+    /// Enters the next state once nothing of the event is left to wait for.
     fn settle(&mut self)
         ensures { self.new ≡ settled self.old }
     {
@@ -186,3 +232,20 @@ impl Life {
         }
     }
 }
+
+/// The laws of the table that `Life::event` answers by, over all events. It does nothing.
+///
+/// `sound`: a worker waits for something exactly while it is installing or activating.
+/// `forward`: no event leads back to an earlier state.
+/// `failed_install`: a worker whose install has failed can become nothing but redundant.
+/// `activation`: nothing keeps an activating worker from being activated.
+pub fn lifecycle_laws()
+    ensures sound { (events : List Event) → IsSound (after_all start events) }
+    ensures forward { (p : Progress) (event : Event) →
+        stage_of p.state ≤ stage_of (after p event).state }
+    ensures failed_install { (p : Progress) (events : List Event) →
+        p.state ≡ Installing → p.failed ≡ true
+        → ((after_all p events).state ≡ Installing) ⊎ ((after_all p events).state ≡ Redundant) }
+    ensures activation { (p : Progress) (event : Event) → p.state ≡ Activating
+        → ((after p event).state ≡ Activating) ⊎ ((after p event).state ≡ Activated) }
+{}

@@ -2,6 +2,7 @@
 
 ghost use Rattle.std.specs.Prelude.{◌≡◌, ◌+◌, All, AllPairs, IfOk, IsTrue, vec_len};
 ghost use Rattle.std.specs.Arc.{arc_value};
+ghost use Rattle.hub_life.specs.OrderLaws.{RuleShowsOrder, StaysGiven};
 
 use crate::OutOfMemory;
 use atomic_table::{Play, Seat, Split, Table, TableRule};
@@ -26,18 +27,18 @@ impl TableRule<(), OrderView, ()> for OrderRule {
 pub struct Give;
 
 impl Play<(), OrderView> for Give {
-    ghost use Rattle.hub_life.specs.Order.{Gives};
+    ghost use Rattle.hub_life.specs.Order.{GivesOrder};
 
-    ghost then = { Gives };
+    ghost then = { GivesOrder };
 }
 
 /// The order is looked for.
-pub struct Look;
+pub struct Seek;
 
-impl Play<(), OrderView> for Look {
-    ghost use Rattle.hub_life.specs.Order.{Looks};
+impl Play<(), OrderView> for Seek {
+    ghost use Rattle.hub_life.specs.Order.{LooksForOrder};
 
-    ghost then = { Looks };
+    ghost then = { LooksForOrder };
 }
 
 /// One more seat, which knows nothing yet.
@@ -78,11 +79,11 @@ pub struct Order {
 impl Model for Order {
     ghost use Rattle.std.specs.Prelude.{◌≡◌};
     ghost use Rattle.std.specs.Arc.{arc_value};
-    ghost use Rattle.hub_life.specs.OrderSeat.{OrderSeat, seat_of};
+    ghost use Rattle.hub_life.specs.OrderSeat.{OrderSeat, order_seat};
 
     ghost Value = { OrderSeat };
 
-    ghost view = { λ o. seat_of o.seat.table_id o.seat.me.0 };
+    ghost view = { λ o. order_seat o.seat.table_id o.seat.me.0 };
 
     ghost invariant = { λ o. ((arc_value o.word).shared.table_id.words ≡ 1)
         × (o.seat.table_id ≡ (arc_value o.word).shared.table_id) };
@@ -124,6 +125,20 @@ impl Order {
         ensures looked { self.new ≡ record self.old { looks = self.old.looks + 1; found = result } }
         ensures stays { IsTrue (knows self.old) → IsTrue result }
     {
-        self.word.shared.load::<Look>(&mut self.seat, 0) == 1
+        self.word.shared.load::<Seek>(&mut self.seat, 0) == 1
     }
 }
+
+/// The laws of the rule that an order's word and its seats meet at every moment of any schedule. It
+/// does nothing.
+///
+/// `shows`: the word says whether some seat has given the order, and no seat has found an order
+/// that none gave.
+/// `stays`: whatever steps the seats make, an order that was given stays given, and the word with
+/// it.
+pub fn order_laws()
+    ensures shows { RuleShowsOrder (⟦<OrderRule as TableRule<(), OrderView, ()>>⟧.holds tt) }
+    ensures stays { StaysGiven (⟦<OrderRule as TableRule<(), OrderView, ()>>⟧.holds tt)
+        ⟦<Give as Play<(), OrderView>>⟧.then ⟦<Seek as Play<(), OrderView>>⟧.then
+        ⟦<OneMore as Split<OrderView>>⟧.left ⟦<OneMore as Split<OrderView>>⟧.right }
+{}

@@ -1,8 +1,8 @@
 -- The numbers of the items of a ring.
 use Rattle.std.proofs.Common.{◌≡◌, ◌∙◌, sym, ℕ, suc, ◌+◌, ◌%◌, ◌^◌, List, [], ◌∷◌, ◌++◌, length, refl, ap, arith, add-one, length-append}
 use Rattle.std.proofs.Math.Nat.{mod-add-mod}
-use Rattle.hub_line.specs.declared.numbered.Numbered.{Numbered}
-use Rattle.hub_line.specs.Numbers.{items, numbers, counted, IsNext, AreCounted}
+use Rattle.hub_line.specs.declared.ring.Numbered.{Numbered}
+use Rattle.hub_line.specs.Numbers.{items, numbers, first_numbers, IsNext, AreCounted}
 
 module _ {T : Type 0} where
   pub items-append : (xs ys : List (Numbered T)) → items (xs ++ ys) ≡ items xs ++ items ys
@@ -25,9 +25,9 @@ module _ {T : Type 0} where
   items-snoc before after x e = ap items e ∙ items-append before (x ∷ [])
 
   -- the next item has the next number
-  pub counted-snoc : (before after : List (Numbered T)) (x : Numbered T) → after ≡ before ++ x ∷ [] → AreCounted before → IsNext before x → AreCounted after
-  counted-snoc before after x e are next =
-      ap numbers e ∙ (numbers-append before (x ∷ []) ∙ (rw (are, next) (sym (ap counted (ap length e ∙ length-snoc before x)))))
+  pub first_numbers-snoc : (before after : List (Numbered T)) (x : Numbered T) → after ≡ before ++ x ∷ [] → AreCounted before → IsNext before x → AreCounted after
+  first_numbers-snoc before after x e are next =
+      ap numbers e ∙ (numbers-append before (x ∷ []) ∙ (rw (are, next) (sym (ap first_numbers (ap length e ∙ length-snoc before x)))))
 
   -- the number of the item after the next
   pub next-snoc : (before after : List (Numbered T)) (x : Numbered T) (next : ℕ) → after ≡ before ++ x ∷ [] → next ≡ length before % 2 ^ 64 → (next + 1) % 2 ^ 64 ≡ length after % 2 ^ 64

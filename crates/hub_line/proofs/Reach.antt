@@ -5,11 +5,11 @@ use Rattle.std.specs.Prelude.{is_some}
 use Rattle.std.specs.declared.alloc.Global.{Global}
 use Rattle.std.specs.declared.boxed.Box.{Box}
 use Rattle.hub_line.specs.Rings.{fed, given, known, SameSource}
-use Rattle.hub_line.specs.declared.feed.Feed.{Feed}
-use Rattle.hub_line.specs.declared.source.Source.{Source}
-use Rattle.hub_line.specs.declared.track.Track.{Track}
-use Rattle.hub_line.specs.declared.track.Track.TheVariants.{Onward, End}
-use Rattle.hub_line.specs.declared.track.Ahead.TheVariants.{Open, Next, Last}
+use Rattle.hub_line.specs.declared.ring.Feed.{Feed}
+use Rattle.hub_line.specs.declared.ring.Source.{Source}
+use Rattle.hub_line.specs.declared.ring.Track.{Track}
+use Rattle.hub_line.specs.declared.ring.Track.TheVariants.{Onward, End}
+use Rattle.hub_line.specs.declared.ring.Ahead.TheVariants.{Open, Next, Last}
 use Rattle.hub_line.specs.Tracks.{goes_on, last_ring, over, settled}
 use Rattle.hub_line.specs.Reach.{HasReached, IsAt, IsAllKnown, front, last_over, taken_of}
 use Rattle.hub_line.proofs.Tracks.{some_same, last_ring-snoc}

@@ -4,12 +4,12 @@ use Rattle.std.specs.declared.boxed.Box.{Box}
 use Rattle.std.proofs.Common.{true, false, Option, None, ◌≡◌, ◌∙◌, sym, Some, List, [], ◌∷◌, ◌++◌, refl, ap, subst, append_assoc}
 use Rattle.std.proofs.lemmas.List.{append-nil}
 use Rattle.hub_line.specs.Rings.{fed, IsRing}
-use Rattle.hub_line.specs.declared.feed.Feed.{Feed}
-use Rattle.hub_line.specs.declared.source.Source.{Source}
-use Rattle.hub_line.specs.declared.track.Track.{Track}
-use Rattle.hub_line.specs.declared.track.Track.TheVariants.{Onward, End}
+use Rattle.hub_line.specs.declared.ring.Feed.{Feed}
+use Rattle.hub_line.specs.declared.ring.Source.{Source}
+use Rattle.hub_line.specs.declared.ring.Track.{Track}
+use Rattle.hub_line.specs.declared.ring.Track.TheVariants.{Onward, End}
 use Rattle.hub_line.specs.Tracks.{goes_on, last_ring, next_ring, over, settled, in_use, IsLinked, Stands}
-use Rattle.hub_line.specs.declared.track.Chained.{Chained}
+use Rattle.hub_line.specs.declared.ring.Chained.{Chained}
 use Rattle.rtrb.specs.Ring.{sent}
 use Rattle.rtrb.specs.declared.producer.Producer.{Producer}
 use Rattle.std.specs.declared.alloc.Global.{Global}

@@ -5,12 +5,12 @@ use Rattle.std.specs.declared.boxed.Box.{Box}
 use Rattle.rtrb.specs.Ring.{sent, known_free}
 use Rattle.rtrb.specs.declared.producer.Producer.{Producer}
 use Rattle.hub_line.specs.Rings.{given, known}
-use Rattle.hub_line.specs.declared.feed.Feed.{Feed}
-use Rattle.hub_line.specs.declared.source.Source.{Source}
-use Rattle.hub_line.specs.declared.track.Ahead.{Ahead}
-use Rattle.hub_line.specs.declared.track.Ahead.TheVariants.{Open, Next, Last}
-use Rattle.hub_line.specs.declared.track.Chained.{Chained}
-use Rattle.hub_line.specs.declared.track.Track.{Track}
+use Rattle.hub_line.specs.declared.ring.Feed.{Feed}
+use Rattle.hub_line.specs.declared.ring.Source.{Source}
+use Rattle.hub_line.specs.declared.ring.Ahead.{Ahead}
+use Rattle.hub_line.specs.declared.ring.Ahead.TheVariants.{Open, Next, Last}
+use Rattle.hub_line.specs.declared.ring.Chained.{Chained}
+use Rattle.hub_line.specs.declared.ring.Track.{Track}
 use Rattle.hub_line.specs.Tracks.{goes_on, last_ring, over, settled, in_use, posted_of, Stands}
 use Rattle.hub_line.specs.Reach.{HasReached, IsAllKnown, front, taken_of}
 use Rattle.hub_line.proofs.Reach.{settled-front}

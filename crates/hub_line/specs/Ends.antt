@@ -6,10 +6,10 @@ use Rattle.hub_line.specs.Rings.{known}
 use Rattle.hub_line.specs.Tracks.{goes_on, posted_of}
 use Rattle.hub_line.specs.Reach.{HasTakenAll, KnowsOfNone, taken_of}
 use Rattle.hub_line.specs.declared.poster.LinePoster.{LinePoster}
-use Rattle.hub_line.specs.declared.taken.LineTaken.{LineTaken}
-use Rattle.hub_line.specs.declared.taken.LineTaken.TheVariants.{Item, Empty, Ended}
+use Rattle.hub_line.specs.declared.taker.LineTaken.{LineTaken}
+use Rattle.hub_line.specs.declared.taker.LineTaken.TheVariants.{Item, Empty, Ended}
 use Rattle.hub_line.specs.declared.taker.LineTaker.{LineTaker}
-use Rattle.hub_line.specs.declared.track.Ahead.TheVariants.{Open}
+use Rattle.hub_line.specs.declared.ring.Ahead.TheVariants.{Open}
 
 module _ {T : Type 0} where
   -- all that was posted, in order

@@ -1,11 +1,11 @@
 -- The numbers of the items of a ring.
 use Rattle.std.specs.Prelude.{◌≡◌, ℕ, zero, suc, ◌%◌, ◌^◌, List, [], ◌∷◌, ◌++◌, length}
-use Rattle.hub_line.specs.declared.numbered.Numbered.{Numbered}
+use Rattle.hub_line.specs.declared.ring.Numbered.{Numbered}
 
 -- 0, 1, 2 and so on, of which there are n
-abbrev pub counted : ℕ → List ℕ
-counted zero = []
-counted (suc n) = counted n ++ (n % 2 ^ 64) ∷ []
+abbrev pub first_numbers : ℕ → List ℕ
+first_numbers zero = []
+first_numbers (suc n) = first_numbers n ++ (n % 2 ^ 64) ∷ []
 
 module _ {T : Type 0} where
   abbrev pub items : List (Numbered T) → List T
@@ -22,4 +22,4 @@ module _ {T : Type 0} where
 
   -- the items have the numbers 0, 1, 2 and so on, with no gap
   abbrev pub AreCounted : List (Numbered T) → Type 0
-  AreCounted xs = numbers xs ≡ counted (length xs)
+  AreCounted xs = numbers xs ≡ first_numbers (length xs)

@@ -3,10 +3,10 @@ use Rattle.std.specs.Prelude.{◌≡◌, true, false, List, [], ◌∷◌, ◌++
 use Rattle.std.specs.Coded.{Coded, Coded-set, coded_list, ×_prop}
 use Rattle.std.proofs.Props.{props}
 use Rattle.hub_line.specs.Rings.{given, known, SameSource}
-use Rattle.hub_line.specs.declared.source.Source.{Source}
-use Rattle.hub_line.specs.declared.track.Track.{Track}
-use Rattle.hub_line.specs.declared.track.Ahead.{Ahead}
-use Rattle.hub_line.specs.declared.track.Ahead.TheVariants.{Open, Next, Last}
+use Rattle.hub_line.specs.declared.ring.Source.{Source}
+use Rattle.hub_line.specs.declared.ring.Track.{Track}
+use Rattle.hub_line.specs.declared.ring.Ahead.{Ahead}
+use Rattle.hub_line.specs.declared.ring.Ahead.TheVariants.{Open, Next, Last}
 use Rattle.hub_line.specs.Tracks.{goes_on, last_ring, over, settled}
 
 module _ {T : Type 0} where
@@ -54,7 +54,7 @@ module _ {T : Type 0} where
   abbrev pub HasTakenAll : Source T → Ahead T → List (Track T) → Type 0
   HasTakenAll source ahead tracks = (goes_on tracks ≡ false) × (taken_of source ahead tracks ≡ settled tracks)
 
-pub HasReached-prop : {T : Type 0} → Coded T → (source : Source T) (ahead : Ahead T) (tracks : List (Track T)) → IsProp (HasReached source ahead tracks)
-HasReached-prop code source Open tracks = Prim.hlevel props
-HasReached-prop code source (Next next) tracks = ×_prop (Coded-set (coded_list code) _ _) (×_prop (Prim.hlevel props) (Coded-set (coded_list code) _ _))
-HasReached-prop code source Last tracks = ×_prop (Coded-set (coded_list code) _ _) (Prim.hlevel props)
+pub reach_prop : {T : Type 0} → Coded T → (source : Source T) (ahead : Ahead T) (tracks : List (Track T)) → IsProp (HasReached source ahead tracks)
+reach_prop code source Open tracks = Prim.hlevel props
+reach_prop code source (Next next) tracks = ×_prop (Coded-set (coded_list code) _ _) (×_prop (Prim.hlevel props) (Coded-set (coded_list code) _ _))
+reach_prop code source Last tracks = ×_prop (Coded-set (coded_list code) _ _) (Prim.hlevel props)

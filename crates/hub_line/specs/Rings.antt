@@ -1,8 +1,8 @@
 -- What contracts see of the two ends of a ring of numbered items.
 use Rattle.std.specs.Prelude.{ℕ, List}
 use Rattle.rtrb.specs.Ring.{sent, received, known_items, known_free, IsPair, SameProducer, SameConsumer}
-use Rattle.hub_line.specs.declared.feed.Feed.{Feed}
-use Rattle.hub_line.specs.declared.source.Source.{Source}
+use Rattle.hub_line.specs.declared.ring.Feed.{Feed}
+use Rattle.hub_line.specs.declared.ring.Source.{Source}
 use Rattle.hub_line.specs.Numbers.{items}
 
 module _ {T : Type 0} where

@@ -1,7 +1,7 @@
 -- What a take comes to.
 use Rattle.std.specs.Prelude.{◌≡◌, List, [], ◌∷◌, ◌++◌}
-use Rattle.hub_line.specs.declared.taken.LineTaken.{LineTaken}
-use Rattle.hub_line.specs.declared.taken.LineTaken.TheVariants.{Item, Empty, Ended}
+use Rattle.hub_line.specs.declared.taker.LineTaken.{LineTaken}
+use Rattle.hub_line.specs.declared.taker.LineTaken.TheVariants.{Item, Empty, Ended}
 
 -- what was taken before, what came of the take, and what was taken after
 abbrev pub Took : {T : Type 0} → List T → LineTaken T → List T → Type 0

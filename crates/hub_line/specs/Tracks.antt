@@ -4,11 +4,11 @@ use Rattle.rtrb.specs.Ring.{sent, known_free}
 use Rattle.rtrb.specs.declared.producer.Producer.{Producer}
 use Rattle.std.specs.declared.alloc.Global.{Global}
 use Rattle.hub_line.specs.Rings.{fed, given, IsRing}
-use Rattle.hub_line.specs.declared.feed.Feed.{Feed}
-use Rattle.hub_line.specs.declared.source.Source.{Source}
-use Rattle.hub_line.specs.declared.track.Chained.{Chained}
-use Rattle.hub_line.specs.declared.track.Track.{Track}
-use Rattle.hub_line.specs.declared.track.Track.TheVariants.{First, Onward, End}
+use Rattle.hub_line.specs.declared.ring.Feed.{Feed}
+use Rattle.hub_line.specs.declared.ring.Source.{Source}
+use Rattle.hub_line.specs.declared.ring.Chained.{Chained}
+use Rattle.hub_line.specs.declared.ring.Track.{Track}
+use Rattle.hub_line.specs.declared.ring.Track.TheVariants.{First, Onward, End}
 
 module _ {T : Type 0} where
   -- the ring in which the line goes on

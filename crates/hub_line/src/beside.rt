@@ -4,17 +4,15 @@ ghost use Rattle.rtrb.specs.Ring.{sent, received, IsPair, SameProducer, SameCons
 ghost use Rattle.hub_line.specs.Rings.{given, known};
 ghost use Rattle.hub_line.specs.Tracks.{in_use, posted_of, Stands};
 ghost use Rattle.hub_line.specs.Reach.{HasReached, IsAt, taken_of};
-ghost use Rattle.hub_line.specs.declared.track.Ahead.TheVariants.{Open};
+ghost use Rattle.hub_line.specs.declared.ring.Ahead.TheVariants.{Open};
 
-use crate::feed::Feed;
 use crate::poster::LinePoster;
-use crate::source::Source;
+use crate::ring::{Ahead, Chained, Feed, Source, Track};
 use crate::taker::{LineTaker, next_ahead};
-use crate::track::{Ahead, Chained, Track};
 use rtrb::{Consumer, Producer};
 use std::alloc::Global;
 
-// What waits in the ring in use, which is the taker's.
+/// What waits in the ring in use, which is the taker's.
 fn waiting_here<T: Drop>(
     source: &mut Source<T>,
     feed: &mut Option<Feed<T>>,
@@ -35,7 +33,7 @@ fn waiting_here<T: Drop>(
     source.items_beside(used)
 }
 
-// What waits in a line of which both ends are at hand.
+/// What waits in a line of which both ends are at hand.
 fn waiting_in<T: Drop>(
     source: &mut Source<T>,
     tracks: &mut Consumer<Track<T>, Global, Chained>,

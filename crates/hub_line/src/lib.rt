@@ -14,24 +14,13 @@
 #![tactic(auto)]
 
 mod beside;
-mod feed;
-mod grave;
 mod line;
-mod notice;
-mod numbered;
 mod poster;
-mod source;
-mod taken;
+mod ring;
 mod taker;
-mod track;
 
-pub use feed::Feed;
-pub use grave::LineGrave;
-pub use line::open_line;
-pub use numbered::{Counted, Numbered};
+pub use line::{LineGrave, open_line};
 pub use poster::{LinePoster, NotPosted};
-pub use source::Source;
+pub use ring::{Ahead, Chained, Counted, Feed, Numbered, Source, Track};
 pub use std::alloc::AllocError as OutOfMemory;
-pub use taken::LineTaken;
-pub use taker::LineTaker;
-pub use track::{Ahead, Chained, Track};
+pub use taker::{LineTaken, LineTaker};

@@ -6,9 +6,8 @@ ghost use Rattle.hub_line.specs.Rings.{fed, free};
 ghost use Rattle.hub_line.specs.Tracks.{goes_on, settled, posted_of, IsLinked, Stands};
 ghost use Rattle.hub_line.specs.declared.poster.NotPosted.TheVariants.{Closed};
 
-use crate::feed::Feed;
-use crate::notice::CLOSED;
-use crate::track::{Chained, Track};
+use crate::line::CLOSED;
+use crate::ring::{Chained, Feed, Track};
 use rtrb::Producer;
 use std::alloc::Global;
 use std::mem;
@@ -50,7 +49,7 @@ pub struct LinePoster<T> {
     ghost stands: { Stands feed rail },
 }
 
-// Goes on in a ring of another capacity, if there is room and memory.
+/// Goes on in a ring of another capacity, if there is room and memory.
 #[cold]
 fn go_on<T: Drop>(
     alloc: Global,
@@ -84,7 +83,7 @@ fn go_on<T: Drop>(
     true
 }
 
-// Makes room for one item, in a larger ring if need be.
+/// Makes room for one item, in a larger ring if need be.
 #[inline]
 fn make_room<T: Drop>(
     alloc: Global,
@@ -112,7 +111,7 @@ fn make_room<T: Drop>(
     go_on(alloc, capacity * GROWTH, feed, rail)
 }
 
-// Ends the line, if it isn't over.
+/// Ends the line, if it isn't over.
 fn end<T: Drop>(feed: &mut Option<Feed<T>>, rail: &mut Producer<Track<T>, Global, Chained>)
     requires { Stands feed.old rail.old }
     ensures stands { Stands feed.new rail.new }
@@ -126,7 +125,7 @@ fn end<T: Drop>(feed: &mut Option<Feed<T>>, rail: &mut Producer<Track<T>, Global
     rail.push_reserved(Track::End(last));
 }
 
-// Does what a notice of the taker asks for, and answers whether it is done.
+/// Does what a notice of the taker asks for, and answers whether it is done.
 #[cold]
 fn heed<T: Drop>(
     alloc: Global,
@@ -150,7 +149,7 @@ fn heed<T: Drop>(
     }
 }
 
-// Posts an item, if the line isn't over.
+/// Posts an item, if the line isn't over.
 #[inline(always)]
 fn post_in<T: Drop>(
     alloc: Global,
@@ -183,7 +182,7 @@ impl<T: Drop> LinePoster<T> {
     ghost use Rattle.hub_line.specs.Ends.{posted, IsOver, SamePoster};
     ghost use Rattle.hub_line.specs.declared.poster.NotPosted.TheVariants.{Closed};
 
-    // Does what the taker has asked for since the last call.
+    /// Does what the taker has asked for since the last call.
     #[inline(always)]
     fn listen(&mut self)
         ensures line { SamePoster self.old self.new }

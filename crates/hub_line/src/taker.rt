@@ -3,23 +3,30 @@ ghost use Rattle.std.specs.Prelude.{◌≡◌, [], ◌++◌, IsTrue, IsFalse};
 ghost use Rattle.rtrb.specs.Ring.{received, known_items, SameConsumer};
 ghost use Rattle.hub_line.specs.Rings.{given, known};
 ghost use Rattle.hub_line.specs.Tracks.{settled};
-ghost use Rattle.hub_line.specs.Reach.{HasReached, HasReached-prop, HasTakenAll, IsAt, KnowsOfNone};
+ghost use Rattle.hub_line.specs.Reach.{HasReached, HasTakenAll, IsAt, KnowsOfNone, reach_prop};
 ghost use Rattle.hub_line.specs.Reach.{taken_of};
 ghost use Rattle.hub_line.specs.Taking.{Took};
-ghost use Rattle.hub_line.specs.declared.taken.LineTaken.TheVariants.{Empty, Ended};
-ghost use Rattle.hub_line.specs.declared.track.Ahead.TheVariants.{Open, Next};
+ghost use Rattle.hub_line.specs.declared.taker.LineTaken.TheVariants.{Empty, Ended};
+ghost use Rattle.hub_line.specs.declared.ring.Ahead.TheVariants.{Open, Next};
 
-use crate::grave::LineGrave;
-use crate::notice::CLOSED;
+use crate::line::{CLOSED, LineGrave};
 use crate::poster::KEPT;
-use crate::source::Source;
-use crate::taken::LineTaken;
-use crate::track::{Ahead, Chained, Track};
+use crate::ring::{Ahead, Chained, Source, Track};
 use rtrb::Consumer;
 use std::alloc::Global;
 use std::mem;
 use std::sync::Arc;
 use std::sync::atomic::{AtomicU64, Ordering};
+
+/// What a take comes to.
+#[derive(Drop)]
+pub enum LineTaken<T> {
+    Item(T),
+    /// Nothing is left of what was posted.
+    Empty,
+    /// Nothing is left, and nothing more will come.
+    Ended,
+}
 
 /// Takes from one poster. Dropped, it closes the line.
 pub struct LineTaker<T> {
@@ -30,10 +37,10 @@ pub struct LineTaker<T> {
     pub(crate) told: u64,
     // How many looks have found nothing.
     pub(crate) empties: u64,
-    ghost reached: { HasReached source ahead (received rail) } by { HasReached-prop T.code source ahead (received rail) },
+    ghost reached: { HasReached source ahead (received rail) } by { reach_prop T.code source _ _ },
 }
 
-// What is heard of how the line goes on.
+/// What is heard of how the line goes on.
 #[cold]
 pub(crate) fn next_ahead<T: Drop>(
     source: &mut Source<T>,
@@ -63,7 +70,7 @@ pub(crate) fn next_ahead<T: Drop>(
     }
 }
 
-// Leaves a ring of which all was taken for the next one.
+/// Leaves a ring of which all was taken for the next one.
 #[cold]
 fn hop<T: Drop>(
     source: &mut Source<T>,
@@ -79,7 +86,7 @@ fn hop<T: Drop>(
     *source = Box::into_inner(next);
 }
 
-// Whether something can be taken: an item of the ring, or the end.
+/// Whether something can be taken: an item of the ring, or the end.
 #[inline]
 fn reach<T: Drop>(
     source: &mut Source<T>,
@@ -117,7 +124,7 @@ fn reach<T: Drop>(
     }
 }
 
-// Takes the next item, wherever the line has it.
+/// Takes the next item, wherever the line has it.
 #[inline(always)]
 fn take_in<T: Drop>(
     source: &mut Source<T>,
@@ -146,7 +153,7 @@ impl<T: Drop> LineTaker<T> {
     ghost use Rattle.hub_line.specs.Taking.{Took};
     ghost use Rattle.hub_line.specs.Ends.{empties_after, taken, HasEnded, HasLooked, HasNoneLeft};
     ghost use Rattle.hub_line.specs.Ends.{HasSome, IsInOrder, IsShut, SameTaker};
-    ghost use Rattle.hub_line.specs.declared.taken.LineTaken.TheVariants.{Empty, Ended};
+    ghost use Rattle.hub_line.specs.declared.taker.LineTaken.TheVariants.{Empty, Ended};
 
     /// Takes the next item.
     #[inline(always)]
@@ -181,7 +188,7 @@ impl<T: Drop> LineTaker<T> {
         some
     }
 
-    // Takes the next item, and tells the poster nothing.
+    /// Takes the next item, and tells the poster nothing.
     #[inline(always)]
     pub(crate) fn take_untold(&mut self) -> LineTaken<T>
         ensures line { SameTaker self.old self.new }
@@ -199,7 +206,7 @@ impl<T: Drop> LineTaker<T> {
         taken
     }
 
-    // Tells the poster, once a ring, that a large ring was found empty.
+    /// Tells the poster, once a ring, that a large ring was found empty.
     #[inline]
     fn tell(&mut self)
         ensures same { (self.new.source ≡ self.old.source) × (self.new.rail ≡ self.old.rail)

@@ -1,8 +1,8 @@
 use hub_channel::{LineTaken, NotPosted, PortTaken, open_channel};
 use std::test::Fail;
 
-// Each token is handed out once: to the peer's post or close, or back to its port. No contract says
-// which token a call answers.
+/// Each token is handed out once: to the peer's post or close, or back to its port. No contract
+/// says which token a call answers.
 #[test]
 fn a_token_is_handed_out_once(rt: HostRuntime) -> Result<(), Fail> {
     let (mut left, mut right) = open_channel(rt.alloc(), 9)?;
@@ -46,8 +46,8 @@ fn a_port_is_disabled_until_it_is_started(rt: HostRuntime) -> Result<(), Fail> {
     Ok(())
 }
 
-// The peer takes the end behind all that was posted, and ends its own line so: the closed port's
-// grave hands back what was posted there, up to the end.
+/// The peer takes the end behind all that was posted, and ends its own line so: the closed port's
+/// grave hands back what was posted there, up to the end.
 #[test]
 fn a_closed_port_tells_its_peer(rt: HostRuntime) -> Result<(), Fail> {
     let (mut left, mut right) = open_channel(rt.alloc(), 1)?;

@@ -4,8 +4,6 @@
 #[cfg(test)]
 mod channels;
 #[cfg(test)]
-mod counted;
-#[cfg(test)]
 mod lines;
 #[cfg(test)]
 mod threads;

@@ -1,12 +1,23 @@
 ghost use Rattle.hub_line.specs.Ends.{SamePoster, SameTaker};
 
-use crate::counted::Counted;
 use hub_line::{LinePoster, LineTaken, LineTaker, NotPosted, open_line};
 use std::sync::Arc;
 use std::sync::atomic::{AtomicU64, Ordering};
 use std::test::Fail;
 
-// Takes as many items, which have these numbers.
+/// An item that counts how often one like it was dropped.
+pub struct Counted {
+    pub drops: Arc<AtomicU64>,
+}
+
+impl Drop for Counted {
+    fn drop(self) {
+        let Counted { drops } = self;
+        drops.fetch_add(1, Ordering::SeqCst);
+    }
+}
+
+/// Takes as many items, which have these numbers.
 fn takes(taker: &mut LineTaker<u64>, from: u64, to: u64) -> bool
     ensures { SameTaker taker.old taker.new }
 {
@@ -45,7 +56,7 @@ fn a_line_grows_and_ends(rt: HostRuntime) -> Result<(), Fail> {
     Ok(())
 }
 
-// A dropped poster ends the line: no contract says so.
+/// A dropped poster ends the line: no contract says so.
 #[test]
 fn a_dropped_poster_ends_an_empty_line(rt: HostRuntime) -> Result<(), Fail> {
     let (poster, mut taker) = open_line::<u64>(rt.alloc())?;
@@ -56,7 +67,7 @@ fn a_dropped_poster_ends_an_empty_line(rt: HostRuntime) -> Result<(), Fail> {
     Ok(())
 }
 
-// A large ring that was found empty is given up, and nothing is lost, time after time.
+/// A large ring that was found empty is given up, and nothing is lost, time after time.
 #[test]
 fn a_line_that_was_behind_goes_on_in_a_small_ring(rt: HostRuntime) -> Result<(), Fail> {
     let (mut poster, mut taker) = open_line(rt.alloc())?;
@@ -84,8 +95,8 @@ fn both_ends_know_what_waits(rt: HostRuntime) -> Result<(), Fail> {
     Ok(())
 }
 
-// What was posted at a closed line is handed back, up to the end, which the poster's next call
-// sends.
+/// What was posted at a closed line is handed back, up to the end, which the poster's next call
+/// sends.
 #[test]
 fn a_closed_line_hands_back_what_was_posted(rt: HostRuntime) -> Result<(), Fail> {
     for posted in [0u64, 1, 16, 17, 300] {
@@ -117,7 +128,7 @@ fn a_poster_that_asks_ends_a_closed_line(rt: HostRuntime) -> Result<(), Fail> {
     Ok(())
 }
 
-// Each item is dropped once: taken, waiting in a line without taker, or refused.
+/// Each item is dropped once: taken, waiting in a line without taker, or refused.
 #[test]
 fn a_line_without_taker_refuses(rt: HostRuntime) -> Result<(), Fail> {
     let drops = Arc::new(rt.alloc(), AtomicU64::new(0))?;

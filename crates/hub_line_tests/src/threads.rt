@@ -1,4 +1,4 @@
-use crate::counted::Counted;
+use crate::lines::Counted;
 use hub_channel::{ChannelPort, PortTaken, open_channel};
 use hub_line::{LineGrave, LinePoster, LineTaken, LineTaker, open_line};
 use std::sync::atomic::{AtomicU64, Ordering};
@@ -15,7 +15,7 @@ fn post_all(mut poster: LinePoster<u64>, count: u64) -> bool {
     true
 }
 
-// How many items came, which were numbered in order.
+/// How many items came, which were numbered in order.
 fn take_all<R: Wait>(rt: &R, mut taker: LineTaker<u64>) -> Option<u64> {
     let mut next = 0u64;
     for _ in rt.forever() {
@@ -58,7 +58,7 @@ fn post_until_refused<R: Wait>(rt: &R, mut poster: LinePoster<u64>) -> u64 {
     posted
 }
 
-// Takes some, closes the line, and drains it: how many came in all, in order.
+/// Takes some, closes the line, and drains it: how many came in all, in order.
 fn close_behind<R: Wait>(rt: &R, mut taker: LineTaker<u64>, most: u64) -> Option<u64> {
     let mut next = 0u64;
     for _ in rt.forever() {
@@ -88,7 +88,7 @@ fn drain<R: Wait>(rt: &R, mut grave: LineGrave<u64>, from: u64) -> Option<u64> {
     Some(next)
 }
 
-// Each item is taken, handed back or refused, once, however a close falls beside the posts.
+/// Each item is taken, handed back or refused, once, however a close falls beside the posts.
 #[test]
 fn a_line_is_closed_beside_posts(rt: HostRuntime) -> Result<(), Fail> {
     for round in 0..2_000u64 {
@@ -121,7 +121,7 @@ fn both_ends_are_dropped_at_once(rt: HostRuntime) -> Result<(), Fail> {
     Ok(())
 }
 
-// Sends back what comes, until the peer is closed.
+/// Sends back what comes, until the peer is closed.
 fn echo<R: Wait>(rt: &R, mut port: ChannelPort<u64>) -> u64 {
     let mut count = 0u64;
     port.start();

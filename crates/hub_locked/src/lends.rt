@@ -12,7 +12,7 @@ pub trait Lends<T> {
     /// The value, or `None` where other threads may change it at any moment.
     ghost shown: { Self → Option T };
 
-    /// Calls the function once, on the value. By its type it has no other way to an answer.
+    /// Calls the function once, on the value. An answer of the type `X` comes from nowhere else.
     fn lend<R: Wait, X, F: FnOnce(&mut T) -> X>(&mut self, rt: &R, act: F) -> X
         requires { F.IsAlwaysCallable act }
         ensures called { (was : T) × (now : T) × FnOnceReturnsAtMut F.FnOnce act was result now }

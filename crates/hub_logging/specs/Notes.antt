@@ -5,7 +5,7 @@ use Rattle.hub_envelope.specs.declared.envelope.Envelope.{Envelope}
 use Rattle.hub_envelope.specs.declared.ids.EndId.{EndId}
 use Rattle.hub_envelope.specs.Naming.{posted_of}
 use Rattle.hub_trace.specs.Accepted.{AgentLog, log_with, message_at, notice_at}
-use Rattle.hub_trace.specs.PortList.{has_end, is_port_list}
+use Rattle.hub_trace.specs.PortList.{lists_end, is_port_list}
 use Rattle.hub_trace.specs.declared.log_entry.Delivery.{Delivery}
 use Rattle.hub_trace.specs.declared.log_entry.LogEntry.TheVariants.{Got}
 
@@ -20,13 +20,13 @@ abbrev pub delivered : Envelope → Delivery
 delivered e = if e.notice then notice_at (posted_of e) else message_at (posted_of e) e.ports e.body
 
 -- a message counts, a notice doesn't; the count has 64 bits
-abbrev pub counted : Bool → ℕ → ℕ
-counted true messages = messages
-counted false messages = (messages + 1) % 2 ^ 64
+abbrev pub message_counted : Bool → ℕ → ℕ
+message_counted true messages = messages
+message_counted false messages = (messages + 1) % 2 ^ 64
 
 -- the ports of the list that aren't missing, in order
 abbrev pub not_missing : List EndId → List EndId → List EndId
-not_missing missing ports = filter (λ p. not (has_end missing p.0)) ports
+not_missing missing ports = filter (λ p. not (lists_end missing p.0)) ports
 
 -- the ports that came with an envelope and that the loop holds; a notice brings none
 abbrev pub found : List EndId → Envelope → List EndId
@@ -41,5 +41,5 @@ abbrev pub notes_of : Notes → Envelope → List EndId → Notes
 notes_of notes e missing = record {
   log = log_with notes.log (Got (delivered e));
   adopted = found missing e;
-  messages = counted e.notice notes.messages;
+  messages = message_counted e.notice notes.messages;
 }

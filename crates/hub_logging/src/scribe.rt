@@ -1,7 +1,7 @@
 ghost use Rattle.std.specs.Prelude.{◌≡◌, ◌≤◌, [], OnOk, OnErr, IfOk};
 ghost use Rattle.hub_logging.specs.Notes.{IsLoggable, delivered, found};
 ghost use Rattle.hub_trace.specs.Accepted.{log_with, message_at, notice_at};
-ghost use Rattle.hub_trace.specs.PortList.{has_end};
+ghost use Rattle.hub_trace.specs.PortList.{lists_end};
 ghost use Rattle.hub_trace.specs.declared.limits.TheConstants.{MAX_AGENT};
 ghost use Rattle.hub_trace.specs.declared.log_entry.LogEntry.TheVariants.{
   Adopted,
@@ -72,14 +72,14 @@ impl Model for Scribe {
         × ((end : ℕ) → is_closed_by s.log.1 end ≡ true → contains nat_cmp s.closed end ≡ true) };
 }
 
-// Whether the end stands in the list.
+/// Whether the end stands in the list.
 fn is_listed(ends: &[EndId], end: EndId) -> bool
-    ensures { result ≡ has_end ends.now end.0 }
+    ensures { result ≡ lists_end ends.now end.0 }
 {
     ends.iter().any(|other| other.0 == end.0)
 }
 
-// The ports that came with an envelope and that the loop holds. A notice brings none.
+/// The ports that came with an envelope and that the loop holds. A notice brings none.
 fn found_ports(
     alloc: Global,
     envelope: &Envelope,
@@ -185,8 +185,8 @@ impl Scribe {
         self.log.put_notice(posted)
     }
 
-    // Logs an envelope that was delivered. One that no log can hold is refused, since the log would
-    // leave out the adoption of a port. An error changes nothing.
+    /// Logs an envelope that was delivered. One that no log can hold is refused, since the log
+    /// would leave out the adoption of a port. An error changes nothing.
     #[tactic(auto, using(crate::proofs::Notes::closed_more))]
     fn log_delivery(&mut self, envelope: &Envelope) -> Result<(), OutOfMemory>
         ensures ok { OnOk result (self.new ≡ record self.old {

@@ -6,7 +6,7 @@ use Rattle.hub_ports.specs.Seats.{ends_of}
 use Rattle.hub_ports.specs.Splitting.{IsSplit}
 use Rattle.hub_loop.specs.Delivering.{IsLookedForIn}
 use Rattle.hub_bell.specs.declared.board.BoardStep.{BoardStep}
-use Rattle.hub_marks.specs.Finding.{HasStepped}
+use Rattle.hub_ready.specs.Finding.{HasStepped}
 use Rattle.hub_queue.specs.Counting.{Count}
 use Rattle.hub_loop.specs.Looping.{LoopState}
 use Rattle.hub_loop.specs.Scanning.{IsServedMarked}

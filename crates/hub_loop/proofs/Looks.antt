@@ -3,21 +3,21 @@ use Rattle.std.proofs.Common.{◌≡◌, ◌∙◌, ℕ, Bool, true, false, List
 use Rattle.std.specs.Prelude.{IfSome, IfNone, ◌↔◌, is_some}
 use Rattle.slab.specs.Slab.{Slab, get}
 use Rattle.hub_envelope.specs.declared.ids.EndId.{EndId}
-use Rattle.hub_marks.specs.declared.ready.Ready.{Ready}
-use Rattle.hub_marks.specs.Finding.{LeadsTo, IsKeyOf}
-use Rattle.hub_marks.specs.Marking.{mark_of}
+use Rattle.hub_ready.specs.declared.ready.Ready.{Ready}
+use Rattle.hub_ready.specs.Finding.{LeadsTo, IsKeyOf}
+use Rattle.hub_ready.specs.Marking.{mark_of}
 use Rattle.hub_queue.specs.Standing.{StandSeat}
 use Rattle.hub_loop.specs.declared.held.Held.{Held}
 use Rattle.hub_loop.specs.declared.held.Held.TheVariants.{Port, Client, Worker, Member, Line}
-use Rattle.hub_loop.specs.declared.held.Kind.{Kind}
-use Rattle.hub_loop.specs.declared.held.Kind.TheVariants as kind
+use Rattle.hub_loop.specs.declared.held.Sought.{Sought}
+use Rattle.hub_loop.specs.declared.held.Sought.TheVariants as kind
 use Rattle.hub_loop.specs.Holding.{end_held}
 use Rattle.hub_loop.specs.Looking.{Holds, IsEndOf, IsLineTo, IsSlotOf, IsFound}
 use Rattle.hub_loop.specs.Reaching.{AreReached}
 use Rattle.hub_loop.proofs.Serves.{mark-cases}
 
 -- what is of a kind and number is the end of that number
-pub kind-end : (k : Kind) (end : EndId) (held : Held) → IsEndOf k end held → end_held held ≡ Some end
+pub kind-end : (k : Sought) (end : EndId) (held : Held) → IsEndOf k end held → end_held held ≡ Some end
 kind-end k end (Port p) is = ap Some is.1
 kind-end k end (Client t) is = ap Some is.1
 kind-end k end (Worker t) is = ap Some is.1
@@ -33,13 +33,13 @@ slot-of Is None is = absurd is
 slot-of Is (Some held) is = (held, refl, is)
 
 -- an end that isn't marked is found by its number
-unmarked : (slots : Slab Held) (r : Ready) (k : Kind) (end : EndId) (key : ℕ) → AreReached slots r → IsSlotOf (IsEndOf k end) (get slots key) → mark_of r.marks key ≡ 0 → LeadsTo r.listed.items end key
+unmarked : (slots : Slab Held) (r : Ready) (k : Sought) (end : EndId) (key : ℕ) → AreReached slots r → IsSlotOf (IsEndOf k end) (get slots key) → mark_of r.marks key ≡ 0 → LeadsTo r.listed.items end key
 unmarked slots r k end key reached is clear =
     let here = slot-of (IsEndOf k end) (get slots key) is in
     (reached key here.0 here.1).1 end (kind-end k end here.0 here.2) clear
 
 -- the number leads to no such end, and no marked one is such
-pub none-found : (slots : Slab Held) (r : Ready) (k : Kind) (end : EndId) → AreReached slots r → ((key : ℕ) → LeadsTo r.listed.items end key → IsSlotOf (IsEndOf k end) (get slots key) → ⊥) → ((key : ℕ) → mark_of r.marks key ≡ 1 → IsSlotOf (IsEndOf k end) (get slots key) → ⊥) → (key : ℕ) → IsSlotOf (IsEndOf k end) (get slots key) → ⊥
+pub none-found : (slots : Slab Held) (r : Ready) (k : Sought) (end : EndId) → AreReached slots r → ((key : ℕ) → LeadsTo r.listed.items end key → IsSlotOf (IsEndOf k end) (get slots key) → ⊥) → ((key : ℕ) → mark_of r.marks key ≡ 1 → IsSlotOf (IsEndOf k end) (get slots key) → ⊥) → (key : ℕ) → IsSlotOf (IsEndOf k end) (get slots key) → ⊥
 none-found slots r k end reached listed marked key is =
     ⊎_elim
     (λ clear. listed key (unmarked slots r k end key reached is clear) is)

@@ -5,9 +5,9 @@ use Rattle.std.proofs.lemmas.Bool.{cases_eq}
 use Rattle.slab.specs.Slab.{Slab, get, SameValues, with_value}
 use Rattle.hub_bell.specs.declared.board.BoardStep.{BoardStep}
 use Rattle.hub_envelope.specs.declared.ids.EndId.{EndId}
-use Rattle.hub_marks.specs.declared.ready.Ready.{Ready}
-use Rattle.hub_marks.specs.Finding.{GrowsMarks, SameEntries}
-use Rattle.hub_marks.specs.Marking.{mark_of, HasBit, SameBut}
+use Rattle.hub_ready.specs.declared.ready.Ready.{Ready}
+use Rattle.hub_ready.specs.Finding.{GrowsMarks, SameEntries}
+use Rattle.hub_ready.specs.Marking.{mark_of, HasBit, SameBut}
 use Rattle.hub_queue.specs.Counting.{Count}
 use Rattle.hub_queue.specs.declared.taker.Took.{Took}
 use Rattle.hub_loop.specs.declared.held.Held.{Held}

@@ -14,7 +14,7 @@ use Rattle.hub_queue.specs.Graves.{GraveSeat}
 use Rattle.hub_loop.specs.declared.closed.ClosedPort.{ClosedPort}
 use Rattle.hub_loop.specs.declared.held.Held.{Held}
 use Rattle.hub_loop.specs.declared.held.Held.TheVariants.{Port, Client, Worker, Member, Line}
-use Rattle.hub_loop.specs.Ending.{is_held, is_open, is_queue, slot_passes, queue_passes, is_grave, grave_ends, swept_ends, closing_ends, ends_in, passing_in}
+use Rattle.hub_loop.specs.Ending.{is_held, is_open, is_this_queue, slot_passes, queue_passes, is_grave, grave_ends, swept_ends, closing_ends, ends_in, passing_in}
 use Rattle.hub_loop.specs.Noticing.{open_number, port_in, ports_back, is_port_passing, port_numbers, ports_in, ClosesLast, AllClosed, SomeClosed, NamedBehind, AreEnded}
 use Rattle.hub_loop.specs.States.{ClosingState, DeliveryState, OpenState, open_arrived, open_held}
 use Rattle.hub_loop.specs.Telling.{IsTold, AreTold, NoticesMore}
@@ -219,12 +219,12 @@ held-passes e (Some h) = refl
 pub count-held : (e : ℕ) (slots : List (Option Held)) → count_by (slot_passes (is_open e)) slots ≡ count_by (is_held e) slots
 count-held e slots = count-same (slot_passes (is_open e)) (is_held e) slots (held-passes e)
 
-queue-passes : (e : ℕ) (q : HandedQueue) → queue_passes (is_open e) q ≡ is_queue e q
+queue-passes : (e : ℕ) (q : HandedQueue) → queue_passes (is_open e) q ≡ is_this_queue e q
 queue-passes e (handed.Client t) = refl
 queue-passes e (handed.Worker t) = refl
 
-pub count-queues : (e : ℕ) (queues : List HandedQueue) → count_by (queue_passes (is_open e)) queues ≡ count_by (is_queue e) queues
-count-queues e queues = count-same (queue_passes (is_open e)) (is_queue e) queues (queue-passes e)
+pub count-queues : (e : ℕ) (queues : List HandedQueue) → count_by (queue_passes (is_open e)) queues ≡ count_by (is_this_queue e) queues
+count-queues e queues = count-same (queue_passes (is_open e)) (is_this_queue e) queues (queue-passes e)
 
 -- a queue is no port
 queue-no-port : (passes : PortSeat → Bool) (q : HandedQueue) → queue_passes (is_port_passing passes) q ≡ false

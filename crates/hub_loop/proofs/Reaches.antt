@@ -5,9 +5,9 @@ use Rattle.std.proofs.lemmas.List.{get_or-set_same, get_or_past}
 use Rattle.std.proofs.lemmas.Option.{none-some}
 use Rattle.slab.specs.Slab.{Slab, get, with_value}
 use Rattle.hub_envelope.specs.declared.ids.EndId.{EndId}
-use Rattle.hub_marks.specs.declared.ready.Ready.{Ready}
-use Rattle.hub_marks.specs.Finding.{GrowsMarks, LeadsTo, SameEntries}
-use Rattle.hub_marks.specs.Marking.{mark_of, HasBit, SameBut}
+use Rattle.hub_ready.specs.declared.ready.Ready.{Ready}
+use Rattle.hub_ready.specs.Finding.{GrowsMarks, LeadsTo, SameEntries}
+use Rattle.hub_ready.specs.Marking.{mark_of, HasBit, SameBut}
 use Rattle.hub_loop.specs.declared.held.Held.{Held}
 use Rattle.hub_loop.specs.Holding.{end_held}
 use Rattle.hub_loop.specs.Reaching.{IsReached, AreReached}

@@ -6,9 +6,9 @@ use Rattle.hub_bell.specs.declared.board.BoardStep.{BoardStep}
 use Rattle.hub_envelope.specs.declared.envelope.Envelope.{Envelope}
 use Rattle.hub_bell.specs.Seats.{BoardSeat, Done}
 use Rattle.hub_envelope.specs.declared.ids.EndId.{EndId}
-use Rattle.hub_marks.specs.declared.ready.Ready.{Ready}
-use Rattle.hub_marks.specs.Finding.{KeepsMarks, HasStepped, HasRead, WasClear, LeadsTo, FindsAll}
-use Rattle.hub_marks.specs.Marking.{mark_of, HasBit}
+use Rattle.hub_ready.specs.declared.ready.Ready.{Ready}
+use Rattle.hub_ready.specs.Finding.{KeepsMarks, HasStepped, HasRead, WasClear, LeadsTo, FindsAll}
+use Rattle.hub_ready.specs.Marking.{mark_of, HasBit}
 use Rattle.hub_queue.specs.Counting.{Count}
 use Rattle.hub_loop.specs.declared.held.Held.{Held}
 use Rattle.hub_loop.specs.Serving.{AskedAll, HasGiven, HasOrder, IsBefore, IsIn, IsPassedOver, IsEndPassedOver, AreServed}

@@ -3,7 +3,7 @@ use Rattle.std.proofs.Common.{rules, Bool, true, false}
 use Rattle.slab.specs.Slab.{Slab}
 use Rattle.hub_envelope.specs.declared.ids.EndId.{EndId}
 use Rattle.hub_loop.specs.declared.held.Held.{Held}
-use Rattle.hub_loop.specs.declared.held.Kind.TheVariants as kind
+use Rattle.hub_loop.specs.declared.held.Sought.TheVariants as kind
 use Rattle.hub_loop.specs.Starting.{IsStartedAs, StartsClient, StartsPort}
 
 pub starts-port : (old new : Slab Held) (end : EndId) (came : Bool) → IsStartedAs kind.Port old new end came → StartsPort old new end came

@@ -16,7 +16,7 @@ use Rattle.hub_loop.specs.Delivering.{IsDelivered}
 use Rattle.hub_loop.specs.Holding.{seat_of, with_seat}
 use Rattle.hub_loop.specs.Serving.{served_by, IsSlotAsked, IsAskedAt, AskedAll, HasGiven}
 use Rattle.hub_loop.specs.TakingNothing.{got_of, TookNothing, SeatTookNothing, HeldTookNothing, SlotTookNothing, TookNothingBut, Gave}
-use Rattle.hub_loop.specs.Turning.{store_of, IsDue, IsTurn}
+use Rattle.hub_loop.specs.Turning.{store_of, IsDue, IsTurn, TurnState}
 use Rattle.hub_loop.specs.declared.held.Held.{Held}
 use Rattle.hub_loop.specs.States.{DeliveryState, HoldingState}
 use Rattle.hub_loop.specs.declared.serving.Served.TheVariants.{Given, Nothing}
@@ -213,14 +213,14 @@ module _ {H E : Type 0} (leaves refuses : H → Envelope → List EndId → H �
       did.1
 
   -- a turn takes of no end but the one that gave its envelope
-  pub others-turn : (old new : HoldingState) (looks : List BoardStep) (kept keeps : Option DeliveryState) (h left : H) (before after : Count) (result : Result Turn E) → IsTurn leaves refuses old new looks kept keeps h left before after result → TookNothingBut (Gave kept new.next result) old.held new.held
-  others-turn old new looks kept keeps h left before after (Ok Ending) turn key gave = slot-same (get old.held key) (get new.held key) (ap (λ holding. get holding.held key) turn.0)
-  others-turn old new looks kept keeps h left before after (Ok (Idle busy)) turn key gave = all-due kept old new looks before after busy key turn.0
-  others-turn old new looks kept keeps h left before after (Ok Delivered) turn key gave =
-      slot-kept (get old.held key) (get turn.2.held key) (get new.held key)
-      (others-due kept old turn.2 looks before after turn.0 key turn.3 (λ is behind. gave (subst (λ k. Gave {E = E} k new.next (Ok Delivered) key) (sym is) (turn.6 ∙ behind))))
-      (λ held there. delivered-kept turn.0 turn.1 (store_of turn.2) (store_of new) h left (Ok tt) turn.4 key held there)
-  others-turn old new looks kept keeps h left before after (Err error) turn key gave =
-      slot-kept (get old.held key) (get turn.2.held key) (get new.held key)
-      (others-due kept old turn.2 looks before after turn.0 key turn.3 (λ is behind. gave (subst (λ k. Gave k new.next (Err error) key) (sym is) (turn.6 ∙ behind))))
-      (λ held there. delivered-kept turn.0 turn.1 (store_of turn.2) (store_of new) h left (Err error) turn.4 key held there)
+  pub others-turn : (given left : TurnState H) (looks : List BoardStep) (result : Result Turn E) → IsTurn leaves refuses given left looks result → TookNothingBut (Gave given.kept left.holding.next result) given.holding.held left.holding.held
+  others-turn given left looks (Ok Ending) turn key gave = slot-same (get given.holding.held key) (get left.holding.held key) (ap (λ (t : TurnState H). get t.holding.held key) turn.0)
+  others-turn given left looks (Ok (Idle busy)) turn key gave = all-due given.kept given.holding left.holding looks given.pops left.pops busy key turn.0
+  others-turn given left looks (Ok Delivered) turn key gave =
+      slot-kept (get given.holding.held key) (get turn.2.held key) (get left.holding.held key)
+      (others-due given.kept given.holding turn.2 looks given.pops left.pops turn.0 key turn.3 (λ is behind. gave (subst (λ k. Gave {E = E} k left.holding.next (Ok Delivered) key) (sym is) (turn.6 ∙ behind))))
+      (λ held there. delivered-kept turn.0 turn.1 (store_of turn.2) (store_of left.holding) given.handler left.handler (Ok tt) turn.4 key held there)
+  others-turn given left looks (Err error) turn key gave =
+      slot-kept (get given.holding.held key) (get turn.2.held key) (get left.holding.held key)
+      (others-due given.kept given.holding turn.2 looks given.pops left.pops turn.0 key turn.3 (λ is behind. gave (subst (λ k. Gave k left.holding.next (Err error) key) (sym is) (turn.6 ∙ behind))))
+      (λ held there. delivered-kept turn.0 turn.1 (store_of turn.2) (store_of left.holding) given.handler left.handler (Err error) turn.4 key held there)

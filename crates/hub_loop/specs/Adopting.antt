@@ -1,5 +1,6 @@
 -- What becomes of the ports that a delivery brings, and of a queue that was fetched.
 use Rattle.std.specs.Prelude.{◌≡◌, ◌⊎◌, ℕ, true, false, List, [], ◌∷◌, ◌++◌, Some, None, Result, Ok, Err, Bool}
+use Rattle.std.specs.List.Sorted.{IsPermutation}
 use Rattle.slab.specs.Slab.{Slab, get, Updates, SameValues}
 use Rattle.hub_clients.specs.declared.handed.HandedQueue.{HandedQueue}
 use Rattle.hub_clients.specs.declared.handed.HandedQueue.TheVariants as handed
@@ -101,6 +102,15 @@ abbrev pub IsQueueAdopted : HandedQueue → Stored → Stored → Bool → Type 
 IsQueueAdopted q old new true = (h : Held) × IsHeldAs q h × HoldsMore old.held new.held h × SameClosed old.closed new.closed
 IsQueueAdopted q old new false =
     (error : AdoptError) × IsUnfit error × IsAdopted (taker_of q) (Err (error, taker_of q)) × SameValues old.held new.held × IsQueueBuried q old.closed new.closed
+
+-- Of the queues that were fetched this one was taken out, or they are as they were.
+abbrev pub IsTakenFrom : HandedQueue → List HandedQueue → List HandedQueue → Type 0
+IsTakenFrom q old new = (new ≡ old) ⊎ IsPermutation old (q ∷ new)
+
+-- The queues that were fetched before are kept, but for one of this number: it may be gone, and one of that number may be kept in its place.
+abbrev pub KeepsOthers : EndId → List HandedQueue → List HandedQueue → Type 0
+KeepsOthers end old new = (new ≡ old)
+    ⊎ ((q : HandedQueue) × (rest : List HandedQueue) × ((taker_of q).end ≡ end.0) × IsTakenFrom q old rest × ((new ≡ rest) ⊎ (new ≡ rest ++ q ∷ [])))
 
 -- A queue of this number was adopted and is held, or it was refused for good and closed; false: or none was there.
 abbrev pub IsFetched : Bool → Stored → Stored → EndId → Type 0

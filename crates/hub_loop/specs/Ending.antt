@@ -23,18 +23,18 @@ is_held e None = false
 is_held e (Some h) = is_seat_of e (seat_of h)
 
 -- it is the end of this number
-abbrev pub is_queue : ℕ → HandedQueue → Bool
-is_queue e q = (taker_of q).end == e
+abbrev pub is_this_queue : ℕ → HandedQueue → Bool
+is_this_queue e q = (taker_of q).end == e
 
-abbrev pub is_port : ℕ → PortSeat → Bool
-is_port e p = p.taker.end == e
+abbrev pub is_this_port : ℕ → PortSeat → Bool
+is_this_port e p = p.taker.end == e
 
 abbrev pub is_grave : ℕ → GraveSeat → Bool
 is_grave e g = g.end == e
 
 abbrev pub is_open : ℕ → OpenState → Bool
 is_open e (open_held h) = is_seat_of e (seat_of h)
-is_open e (open_arrived p) = is_port e p
+is_open e (open_arrived p) = is_this_port e p
 
 -- what is held under this key, this queue or this port passes, once it is taken out
 abbrev pub slot_passes : (OpenState → Bool) → Option Held → Bool
@@ -49,18 +49,18 @@ abbrev pub arrived_passes : (OpenState → Bool) → PortSeat → Bool
 arrived_passes passes p = passes (open_arrived p)
 
 -- the ports that were found for a delivery and not adopted yet
-abbrev pub found_in : Option ReceivingState → List PortSeat
-found_in None = []
-found_in (Some r) = r.found
+abbrev pub ports_found : Option ReceivingState → List PortSeat
+ports_found None = []
+ports_found (Some r) = r.found
 
 abbrev pub found_of : Option DeliveryState → List PortSeat
 found_of None = []
-found_of (Some d) = found_in d.arrival
+found_of (Some d) = ports_found d.arrival
 
 -- How many ends of this number there are among those that are held, that were fetched, that were found for a kept delivery, that were taken out to be closed, and that were closed.
 abbrev pub ends_in : Slab Held → List HandedQueue → Option DeliveryState → List OpenState → List GraveSeat → ℕ → ℕ
 ends_in held fetched kept opened graves e =
-    count_by (is_held e) held.slots + count_by (is_queue e) fetched + count_by (is_port e) (found_of kept)
+    count_by (is_held e) held.slots + count_by (is_this_queue e) fetched + count_by (is_this_port e) (found_of kept)
     + count_by (is_open e) opened + count_by (is_grave e) graves
 
 -- How many pass among what is held, what was fetched, what was found for a kept delivery, and what was taken out to be closed.

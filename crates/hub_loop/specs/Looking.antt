@@ -8,9 +8,11 @@ use Rattle.hub_queue.specs.Standing.{StandSeat}
 use Rattle.hub_queue.specs.Taking.{TakerSeat}
 use Rattle.hub_loop.specs.declared.held.Held.{Held}
 use Rattle.hub_loop.specs.declared.held.Held.TheVariants.{Port, Client, Worker, Member, Line}
-use Rattle.hub_loop.specs.declared.held.Kind.{Kind}
-use Rattle.hub_loop.specs.declared.held.Kind.TheVariants as kind
-use Rattle.hub_loop.specs.Holding.{end_held, number_of}
+use Rattle.hub_loop.specs.declared.held.Sought.{Sought}
+use Rattle.hub_loop.specs.declared.held.Sought.TheVariants as kind
+use Rattle.hub_loop.specs.declared.posting.Way.{Way}
+use Rattle.hub_loop.specs.declared.posting.Way.TheVariants as way
+use Rattle.hub_loop.specs.Holding.{end_held, number_held}
 
 -- this is held
 abbrev pub Holds : Slab Held → Held → Type 0
@@ -37,7 +39,7 @@ abbrev pub HoldsNoEnd : Slab Held → EndId → Type 0
 HoldsNoEnd slots end = (held : Held) → Holds slots held → end_held held ≢ Some end
 
 -- it is an end of this kind; a line is no end
-abbrev pub is_a : Kind → Held → Bool
+abbrev pub is_a : Sought → Held → Bool
 is_a kind.End (Port p) = true
 is_a kind.End (Client t) = true
 is_a kind.End (Worker t) = true
@@ -60,8 +62,8 @@ is_a kind.Member (Member m) = true
 is_a kind.Member (Line s) = false
 
 -- it is the end of this kind and number
-abbrev pub IsEndOf : Kind → EndId → Held → Type 0
-IsEndOf kind end held = (is_a kind held ≡ true) × (number_of held ≡ end)
+abbrev pub IsEndOf : Sought → EndId → Held → Type 0
+IsEndOf kind end held = (is_a kind held ≡ true) × (number_held held ≡ end)
 
 -- it is a line that posts at the end of this number
 abbrev pub IsLineTo : EndId → Held → Type 0
@@ -70,6 +72,15 @@ IsLineTo end (Client t) = ⊥
 IsLineTo end (Worker t) = ⊥
 IsLineTo end (Member m) = ⊥
 IsLineTo end (Line s) = s.name.end ≡ end
+
+-- it is the port, or a line to the end, over which this goes
+abbrev pub IsWay : Way → Held → Type 0
+IsWay (way.Port end) = IsEndOf kind.Port end
+IsWay (way.Line end) = IsLineTo end
+
+-- no such port or line is held
+abbrev pub LacksWay : Way → Slab Held → Type 0
+LacksWay way slots = (held : Held) → Holds slots held → IsWay way held → ⊥
 
 -- what is held under this key is such, if anything is
 abbrev pub IsSlotOf : (Held → Type 0) → Option Held → Type 0

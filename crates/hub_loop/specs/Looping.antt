@@ -6,7 +6,7 @@ use Rattle.hub_clients.specs.declared.handed.HandedQueue.{HandedQueue}
 use Rattle.hub_envelope.specs.declared.envelope.Envelope.{Envelope}
 use Rattle.hub_envelope.specs.declared.ids.EndId.{EndId}
 use Rattle.hub_life.specs.OrderSeat.{OrderSeat}
-use Rattle.hub_marks.specs.Finding.{HasStepped}
+use Rattle.hub_ready.specs.Finding.{HasStepped}
 use Rattle.hub_ports.specs.Seats.{PortSeat}
 use Rattle.hub_queue.specs.Counting.{Count}
 use Rattle.hub_loop.specs.declared.closed.ClosedPort.{ClosedPort}
@@ -16,7 +16,7 @@ use Rattle.hub_loop.specs.Adopting.{closed_of}
 use Rattle.hub_loop.specs.Ending.{closing_ends, ends_in, passing_in}
 use Rattle.hub_loop.specs.Noticing.{AreEnded, SomeClosed, ports_in}
 use Rattle.hub_loop.specs.States.{ClosingState, DeliveryState, HoldingState, OpenState}
-use Rattle.hub_loop.specs.Turning.{IsDue, IsTurn}
+use Rattle.hub_loop.specs.Turning.{IsDue, IsTurn, TurnState}
 
 -- What the loop has seen of the order to end, and of the ends that rang; its handler; what it holds, with the ports that could not be adopted; the delivery that was kept and the queues that were fetched, for want of memory; and how far its end has come: what is still to be closed, and what was closed.
 pub record LoopState (H : Type 0) : Type 0 where
@@ -51,11 +51,15 @@ module _ {H : Type 0} where
       (looks : List BoardStep) × HasStepped old.listener new.listener looks
       × IsDue old.kept old.holding new.holding looks before after due
 
+  -- what a turn of the loop is given, after so many pops, or leaves
+  abbrev pub turn_state : LoopState H → Count → TurnState H
+  turn_state l pops = record { holding = l.holding; kept = l.kept; handler = l.handler; pops = pops }
+
   -- The loop made a turn.
   abbrev pub MakesTurn : {E : Type 0} → (H → Envelope → List EndId → H → Type 0) → (H → Envelope → List EndId → H → Type 0) → LoopState H → LoopState H → Count → Count → Result Turn E → Type 0
   MakesTurn leaves refuses old new before after result =
       (looks : List BoardStep) × HasStepped old.listener new.listener looks
-      × IsTurn leaves refuses old.holding new.holding looks old.kept new.kept old.handler new.handler before after result
+      × IsTurn leaves refuses (turn_state old before) (turn_state new after) looks result
 
   -- All else is as it was: what was fetched, and how far the end of the loop has come.
   abbrev pub SameButTurn : LoopState H → LoopState H → Type 0

@@ -2,8 +2,8 @@
 use Rattle.std.specs.Prelude.{◌≡◌, ◌⊎◌, ℕ, Some, None}
 use Rattle.slab.specs.Slab.{Slab, get}
 use Rattle.hub_envelope.specs.declared.ids.EndId.{EndId}
-use Rattle.hub_marks.specs.declared.ready.Ready.{Ready}
-use Rattle.hub_marks.specs.Marking.{mark_of}
+use Rattle.hub_ready.specs.declared.ready.Ready.{Ready}
+use Rattle.hub_ready.specs.Marking.{mark_of}
 use Rattle.hub_loop.specs.declared.held.Held.{Held}
 use Rattle.hub_loop.specs.Holding.{end_held}
 

@@ -8,13 +8,13 @@ use Rattle.hub_loop.specs.declared.closed.ClosedPort.{ClosedPort}
 use Rattle.hub_loop.specs.declared.held.Held.{Held}
 use Rattle.hub_loop.specs.declared.held.Held.TheVariants.{Port, Client, Worker, Member, Line}
 use Rattle.hub_loop.specs.Ending.{found_of, slot_passes, closing_ends}
-use Rattle.hub_loop.specs.Holding.{number_of}
+use Rattle.hub_loop.specs.Holding.{number_held}
 use Rattle.hub_loop.specs.States.{ClosingState, DeliveryState, OpenState, open_arrived, open_held}
 use Rattle.hub_loop.specs.Telling.{NoticesMore}
 
 -- the number of the end that was taken out to be closed, or of the end at which the line posts
 abbrev pub open_number : OpenState → EndId
-open_number (open_held h) = number_of h
+open_number (open_held h) = number_held h
 open_number (open_arrived p) = end_of p
 
 -- the port that was taken out to be closed, where it is one

@@ -2,9 +2,9 @@
 use Rattle.std.specs.Prelude.{◌≡◌, ℕ, Some}
 use Rattle.slab.specs.Slab.{Slab, get}
 use Rattle.hub_envelope.specs.declared.ids.EndId.{EndId}
-use Rattle.hub_marks.specs.declared.ready.Ready.{Ready}
-use Rattle.hub_marks.specs.Finding.{LeadsTo}
-use Rattle.hub_marks.specs.Marking.{mark_of, HasBit}
+use Rattle.hub_ready.specs.declared.ready.Ready.{Ready}
+use Rattle.hub_ready.specs.Finding.{LeadsTo}
+use Rattle.hub_ready.specs.Marking.{mark_of, HasBit}
 use Rattle.hub_loop.specs.declared.held.Held.{Held}
 use Rattle.hub_loop.specs.Holding.{end_held}
 

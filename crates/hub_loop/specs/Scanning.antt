@@ -5,12 +5,12 @@ use Rattle.hub_bell.specs.declared.board.BoardStep.{BoardStep}
 use Rattle.hub_bell.specs.Seats.{BoardSeat}
 use Rattle.hub_envelope.specs.declared.envelope.Envelope.{Envelope}
 use Rattle.hub_envelope.specs.declared.ids.EndId.{EndId}
-use Rattle.hub_marks.specs.Finding.{HasStepped, LeadsTo}
-use Rattle.hub_marks.specs.Marking.{mark_of}
+use Rattle.hub_ready.specs.Finding.{HasStepped, LeadsTo}
+use Rattle.hub_ready.specs.Marking.{mark_of}
 use Rattle.hub_queue.specs.Counting.{Count}
 use Rattle.hub_loop.specs.declared.held.Held.{Held}
-use Rattle.hub_loop.specs.declared.ends.Ends.{Ends}
-use Rattle.hub_marks.specs.declared.ready.Ready.{Ready}
+use Rattle.hub_loop.specs.declared.ends.HeldEnds.{HeldEnds}
+use Rattle.hub_ready.specs.declared.ready.Ready.{Ready}
 use Rattle.hub_loop.specs.declared.serving.Served.{Served}
 use Rattle.hub_loop.specs.declared.serving.Served.TheVariants.{Given, Nothing}
 use Rattle.hub_loop.specs.Holding.{end_held}
@@ -31,8 +31,8 @@ pub record EndsSeat : Type 0 where
   pub ready : Ready
   pub next : ℕ
 
-abbrev pub ends_of : Ends → EndsSeat
-ends_of h = record { held = h.held; ready = h.ready; next = h.next }
+abbrev pub held_ends : HeldEnds → EndsSeat
+held_ends h = record { held = h.held; ready = h.ready; next = h.next }
 
 -- the key of the end that gave an envelope is one of those that there are
 abbrev pub IsServedInside : ℕ → Served → Type 0
@@ -102,7 +102,7 @@ AreAllServed old new before after (Nothing busy) =
     (keys : List ℕ) × AskedThese keys old new before after busy × InOrder old.next old.held.capacity keys
 
 -- The same as the loop promises it.
-abbrev pub IsServed : Ends → Ends → BoardSeat → BoardSeat → Count → Count → Served → Type 0
+abbrev pub IsServed : HeldEnds → HeldEnds → BoardSeat → BoardSeat → Count → Count → Served → Type 0
 IsServed old new heard hears before after served =
     (looks : List BoardStep) × HasStepped heard hears looks
     × AreServed old.next old.held new.held old.ready.marks looks before after served

@@ -10,8 +10,8 @@ use Rattle.hub_loop.specs.declared.serving.Served.TheVariants.{Given, Nothing}
 use Rattle.hub_bell.specs.declared.board.BoardStep.{BoardStep}
 use Rattle.hub_envelope.specs.declared.ids.EndId.{EndId}
 use Rattle.hub_envelope.specs.declared.envelope.Envelope.{Envelope}
-use Rattle.hub_marks.specs.Finding.{WasClear}
-use Rattle.hub_marks.specs.Marking.{mark_of}
+use Rattle.hub_ready.specs.Finding.{WasClear}
+use Rattle.hub_ready.specs.Marking.{mark_of}
 use Rattle.hub_loop.specs.Asking.{IsHeldAsked}
 use Rattle.hub_loop.specs.Holding.{end_held}
 

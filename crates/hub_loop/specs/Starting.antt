@@ -6,7 +6,7 @@ use Rattle.hub_ports.specs.Seats.{PortSeat, end_of}
 use Rattle.hub_queue.specs.Taking.{TakerSeat, started}
 use Rattle.hub_loop.specs.declared.held.Held.{Held}
 use Rattle.hub_loop.specs.declared.held.Held.TheVariants.{Port, Client, Worker, Member, Line}
-use Rattle.hub_loop.specs.declared.held.Kind.{Kind}
+use Rattle.hub_loop.specs.declared.held.Sought.{Sought}
 use Rattle.hub_loop.specs.Looking.{HoldsNoClient, HoldsNoPort, IsEndOf, IsFound}
 
 -- the port or the client's queue with its newest gate enabled; nothing else is started
@@ -18,7 +18,7 @@ started_held (Member m) = Member m
 started_held (Line s) = Line s
 
 -- The end of this kind and number was started under the very key where it is held. False: none is held, and nothing has changed.
-abbrev pub IsStartedAs : Kind → Slab Held → Slab Held → EndId → Bool → Type 0
+abbrev pub IsStartedAs : Sought → Slab Held → Slab Held → EndId → Bool → Type 0
 IsStartedAs kind old new end true =
     (key : ℕ) × (held : Held) × (get old key ≡ Some held) × IsEndOf kind end held × (new ≡ with_value old key (started_held held))
 IsStartedAs kind old new end false = IsFound (IsEndOf kind end) old None × (new ≡ old)

@@ -3,7 +3,7 @@ use Rattle.std.specs.Prelude.{◌≡◌, ℕ, ◌+◌, Bool, List, [], Option, S
 use Rattle.hub_envelope.specs.declared.envelope.Envelope.{Envelope}
 use Rattle.hub_envelope.specs.declared.ids.EndId.{EndId}
 use Rattle.hub_bell.specs.declared.board.BoardStep.{BoardStep}
-use Rattle.hub_marks.specs.Marking.{mark_of}
+use Rattle.hub_ready.specs.Marking.{mark_of}
 use Rattle.hub_queue.specs.Counting.{Count}
 use Rattle.hub_loop.specs.declared.serving.Served.TheVariants.{Given, Nothing}
 use Rattle.hub_loop.specs.declared.handler.Turn.{Turn}
@@ -26,16 +26,22 @@ IsDue None old new looks before after (Ok d) =
 IsDue None old new looks before after (Err busy) =
     AreServed old.next old.held new.held old.ready.marks looks before after (Nothing busy) × (new.next ≡ old.next) × (new.closed ≡ old.closed)
 
+-- what a turn is given, and what it leaves: what is held, the delivery that is kept, the handler, and the pops that were counted
+pub record TurnState (H : Type 0) : Type 0 where
+  pub holding : HoldingState
+  pub kept : Option DeliveryState
+  pub handler : H
+  pub pops : Count
+
 module _ {H E : Type 0} (leaves refuses : H → Envelope → List EndId → H → Type 0) where
   -- Ending: nothing was done. Idle: no delivery was kept, and each end was asked. Delivered: one delivery was taken up and told to the handler. After an error it is kept.
-  abbrev pub IsTurn : HoldingState → HoldingState → List BoardStep → Option DeliveryState → Option DeliveryState → H → H → Count → Count → Result Turn E → Type 0
-  IsTurn old new looks kept keeps h left before after (Ok Ending) =
-      (new ≡ old) × (keeps ≡ kept) × (left ≡ h) × (after ≡ before) × (looks ≡ [])
-  IsTurn old new looks kept keeps h left before after (Ok (Idle busy)) =
-      IsDue kept old new looks before after (Err busy) × (keeps ≡ None) × (left ≡ h)
-  IsTurn old new looks kept keeps h left before after (Ok Delivered) =
-      (d : DeliveryState) × (e : DeliveryState) × (middle : HoldingState) × IsDue kept old middle looks before after (Ok d)
-      × IsDelivered {E = E} leaves refuses d e (store_of middle) (store_of new) h left (Ok tt) × (keeps ≡ None) × (new.next ≡ middle.next)
-  IsTurn old new looks kept keeps h left before after (Err error) =
-      (d : DeliveryState) × (e : DeliveryState) × (middle : HoldingState) × IsDue kept old middle looks before after (Ok d)
-      × IsDelivered {E = E} leaves refuses d e (store_of middle) (store_of new) h left (Err error) × (keeps ≡ Some e) × (new.next ≡ middle.next)
+  abbrev pub IsTurn : TurnState H → TurnState H → List BoardStep → Result Turn E → Type 0
+  IsTurn given left looks (Ok Ending) = (left ≡ given) × (looks ≡ [])
+  IsTurn given left looks (Ok (Idle busy)) =
+      IsDue given.kept given.holding left.holding looks given.pops left.pops (Err busy) × (left.kept ≡ None) × (left.handler ≡ given.handler)
+  IsTurn given left looks (Ok Delivered) =
+      (d : DeliveryState) × (e : DeliveryState) × (middle : HoldingState) × IsDue given.kept given.holding middle looks given.pops left.pops (Ok d)
+      × IsDelivered {E = E} leaves refuses d e (store_of middle) (store_of left.holding) given.handler left.handler (Ok tt) × (left.kept ≡ None) × (left.holding.next ≡ middle.next)
+  IsTurn given left looks (Err error) =
+      (d : DeliveryState) × (e : DeliveryState) × (middle : HoldingState) × IsDue given.kept given.holding middle looks given.pops left.pops (Ok d)
+      × IsDelivered {E = E} leaves refuses d e (store_of middle) (store_of left.holding) given.handler left.handler (Err error) × (left.kept ≡ Some e) × (left.holding.next ≡ middle.next)

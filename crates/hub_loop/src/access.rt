@@ -36,10 +36,10 @@ ghost use Rattle.hub_loop.specs.declared.held.Held.TheVariants.{
 };
 
 use crate::closed::ClosedEnd;
+use crate::error::LoopError;
 use crate::event_loop::EventLoop;
 use crate::handler::{Checkpoint, Handler};
-use crate::held::{Held, Kind};
-use crate::loop_error::LoopError;
+use crate::held::{Held, Sought};
 use hub_broadcast::{Member, Roster};
 use hub_clients::ClientQueue;
 use hub_envelope::{EndId, OutOfMemory};
@@ -75,7 +75,7 @@ impl<H: Handler + Drop, C: Checkpoint + Drop> EventLoop<H, C> {
             × (self.new.holding.closed ≡ self.old.holding.closed) }
         ensures rest { self.new ≡ record self.old { holding = self.new.holding } }
     {
-        self.holding.ends.start_kind(Kind::Port, end)
+        self.holding.ends.start_kind(Sought::Port, end)
     }
 
     /// Enables the client's queue of this number, as `ClientQueue::start_messages` and `loaded`.
@@ -88,7 +88,7 @@ impl<H: Handler + Drop, C: Checkpoint + Drop> EventLoop<H, C> {
             × (self.new.holding.closed ≡ self.old.holding.closed) }
         ensures rest { self.new ≡ record self.old { holding = self.new.holding } }
     {
-        self.holding.ends.start_kind(Kind::Client, end)
+        self.holding.ends.start_kind(Sought::Client, end)
     }
 
     /// Lends the port of this number. `None` where the loop doesn't hold it.
@@ -97,7 +97,7 @@ impl<H: Handler + Drop, C: Checkpoint + Drop> EventLoop<H, C> {
             × (end_of port.now ≡ end)) }
         ensures none { IfNone result (HoldsNoPort self.old.holding.held end) }
     {
-        let key = self.holding.ends.find_end(Kind::Port, end)?;
+        let key = self.holding.ends.find_end(Sought::Port, end)?;
         self.holding.ends.lend(key)?.as_port()
     }
 
@@ -107,7 +107,7 @@ impl<H: Handler + Drop, C: Checkpoint + Drop> EventLoop<H, C> {
             × (queue.now.end ≡ end.0)) }
         ensures none { IfNone result (HoldsNoClient self.old.holding.held end) }
     {
-        let key = self.holding.ends.find_end(Kind::Client, end)?;
+        let key = self.holding.ends.find_end(Sought::Client, end)?;
         self.holding.ends.lend(key)?.as_client()
     }
 
@@ -117,7 +117,7 @@ impl<H: Handler + Drop, C: Checkpoint + Drop> EventLoop<H, C> {
             × (member.now.taker.end ≡ end.0)) }
         ensures none { IfNone result (HoldsNoMember self.old.holding.held end) }
     {
-        let key = self.holding.ends.find_end(Kind::Member, end)?;
+        let key = self.holding.ends.find_end(Sought::Member, end)?;
         self.holding.ends.lend(key)?.as_member()
     }
 
@@ -161,7 +161,7 @@ impl<H: Handler + Drop, C: Checkpoint + Drop> EventLoop<H, C> {
             × (member.now.taker.end ≡ end.0)) }
         ensures none { IfNone result (HoldsNoMember self.now.holding.held end) }
     {
-        let key = self.holding.ends.find_end(Kind::Member, end)?;
+        let key = self.holding.ends.find_end(Sought::Member, end)?;
         match self.holding.ends.held.get(key)? {
             Held::Member(member) => Some(member),
             _ => None,
@@ -174,7 +174,7 @@ impl<H: Handler + Drop, C: Checkpoint + Drop> EventLoop<H, C> {
             × (end_held held.now ≡ Some end)) }
         ensures none { IfNone result (HoldsNoEnd self.now.holding.held end) }
     {
-        let key = self.holding.ends.find_end(Kind::End, end)?;
+        let key = self.holding.ends.find_end(Sought::End, end)?;
         self.holding.ends.held.get(key)
     }
 

@@ -26,7 +26,7 @@ ghost use Rattle.hub_loop.specs.Adopting.{
   SameStored,
 };
 ghost use Rattle.hub_loop.specs.Marking.{AreMarked};
-ghost use Rattle.hub_marks.specs.Marking.{HasBit};
+ghost use Rattle.hub_ready.specs.Marking.{HasBit};
 
 use crate::closed::ClosedPort;
 use crate::delivery::Receiving;
@@ -38,7 +38,7 @@ use hub_ports::{Hub, Port};
 use hub_queue::{AdoptError, Bell};
 use std::sync::Wait;
 
-// Adopts a queue for the loop that this bell wakes.
+/// Adopts a queue for the loop that this bell wakes.
 fn adopt_handed<R: Wait>(
     rt: &R,
     hub: &Hub,
@@ -96,7 +96,7 @@ impl Holding {
         }
     }
 
-    // Makes room for an end of this number that is to be adopted, and for what it is closed to.
+    /// Makes room for an end of this number that is to be adopted, and for what it is closed to.
     fn prepare(&mut self, end: EndId) -> Result<Bell, OutOfMemory>
         ensures held { OnOk result (HasRoomFor self.new.ends.held 1) }
         ensures bit { OnOk result (HasBit self.new.ends.ready.marks self.new.ends.held.vacant_key) }
@@ -115,8 +115,8 @@ impl Holding {
         self.bell.clone()
     }
 
-    // Adopts the first of the ports that were found and holds it. One that was adopted too often,
-    // or whose number the yard knows already, is closed and counts as missing.
+    /// Adopts the first of the ports that were found and holds it. One that was adopted too often,
+    /// or whose number the yard knows already, is closed and counts as missing.
     fn adopt_first<R: Wait>(
         &mut self,
         rt: &R,

@@ -32,7 +32,7 @@ impl Drop for ClosedPort {
 }
 
 impl ClosedPort {
-    // What is told of the port of that number, of which this line is left.
+    /// What is told of the port of that number, whose closed line is `spent`.
     fn of(end: EndId, spent: Spent, noticed: Noticed) -> ClosedPort
         ensures { (p : PortSeat) → end ≡ end_of p → IsNoticed p.poster spent noticed
             → IsTold p result }
@@ -75,7 +75,7 @@ pub struct ClosedEnd {
 }
 
 impl ClosedEnd {
-    /// A port was closed to this: its end, and what is told of it.
+    /// The end of a port that was closed, and what is told of the port.
     pub(crate) fn of_port(left: (Grave, ClosedPort)) -> ClosedEnd
         ensures grave { result.grave ≡ left.0 }
         ensures port { result.port ≡ Some left.1 }

@@ -6,7 +6,7 @@ ghost use Rattle.hub_loop.specs.Ending.{is_grave, grave_ends, swept_ends, closin
 ghost use Rattle.hub_loop.specs.Noticing.{NamedBehind};
 
 use crate::closed::ClosedPort;
-use crate::delivery::Delivery;
+use crate::delivery::Undelivered;
 use crate::ending::Closed;
 use hub_clients::Directory;
 use hub_envelope::{Envelope, OutOfMemory};
@@ -27,7 +27,7 @@ pub struct Ended {
 }
 
 /// How far the end of a loop has come. After want of memory the next call goes on from here.
-pub(crate) struct Closing {
+pub(crate) struct Shutdown {
     /// The ports of the envelope that was looked at last, which are still to be closed.
     found: VecDeque<Arrived>,
     /// The closed ends that are still to be swept, in the order in which they are to be.
@@ -41,9 +41,9 @@ pub(crate) struct Closing {
 }
 
 // By hand, so that whoever drops one makes one call, and its proof has no cases of its fields.
-impl Drop for Closing {
+impl Drop for Shutdown {
     fn drop(self) {
-        let Closing {
+        let Shutdown {
             found,
             graves,
             swept,
@@ -59,7 +59,7 @@ impl Drop for Closing {
     }
 }
 
-impl Model for Closing {
+impl Model for Shutdown {
     ghost use Rattle.hub_loop.specs.States.{ClosingState};
 
     ghost Value = { ClosingState };
@@ -71,7 +71,7 @@ impl Model for Closing {
     } };
 }
 
-// Takes the ports that an envelope names out of flight.
+/// Takes the ports that an envelope names out of flight.
 fn take_named<R: Wait>(
     rt: &R,
     hub: &Hub,
@@ -82,7 +82,7 @@ fn take_named<R: Wait>(
     Ok(VecDeque::from_vec(found))
 }
 
-// Sweeps these closed ends, in order. After an error the others are still there.
+/// Sweeps these closed ends, in order. After an error the others are still there.
 fn sweep_all<R: Wait>(
     rt: &R,
     graves: &mut VecDeque<Grave>,
@@ -106,7 +106,7 @@ fn sweep_all<R: Wait>(
     Ok(())
 }
 
-// Closes these ports, in order: their graves are to be swept behind the others.
+/// Closes these ports, in order: their graves are to be swept behind the others.
 fn close_found<R: Wait>(
     rt: &R,
     hub: &Hub,
@@ -128,7 +128,7 @@ fn close_found<R: Wait>(
     Ok(())
 }
 
-// Takes the ports of the next discarded envelope out of flight. Whether there was one.
+/// Takes the ports of the next discarded envelope out of flight. Whether there was one.
 fn look_further<R: Wait>(
     rt: &R,
     hub: &Hub,
@@ -149,18 +149,18 @@ fn look_further<R: Wait>(
     Ok(true)
 }
 
-// Gives the lines back. One that the directory refuses is dropped.
+/// Gives the lines back. One that the directory refuses is dropped.
 fn give_back<R: Wait>(rt: &R, directory: &Directory, lines: &mut Vec<Poster>) {
     while let Some(poster) = lines.pop() {
         drop(directory.give_back(rt, poster));
     }
 }
 
-// Takes the ports of a kept delivery out of flight, if that wasn't done.
+/// Takes the ports of a kept delivery out of flight, if that wasn't done.
 fn look_for_kept<R: Wait>(
     rt: &R,
     hub: &Hub,
-    kept: &mut Option<Delivery>,
+    kept: &mut Option<Undelivered>,
     found: &mut VecDeque<Arrived>,
 ) -> Result<(), OutOfMemory> {
     if let Some(delivery) = kept {
@@ -172,9 +172,9 @@ fn look_for_kept<R: Wait>(
     Ok(())
 }
 
-impl Closing {
+impl Shutdown {
     /// These were closed, and nothing was swept yet.
-    pub(crate) fn new(alloc: Global, closed: Closed) -> Closing
+    pub(crate) fn new(alloc: Global, closed: Closed) -> Shutdown
         ensures swept { result.swept ≡ [] }
         ensures sorted { IsNonDecreasing (grave_ends result.graves) }
         ensures same { (e : ℕ) → count_by (is_grave e) result.graves
@@ -187,7 +187,7 @@ impl Closing {
             lines,
         } = closed;
         graves.sort_unstable_by_key(|grave| grave.end().0);
-        Closing {
+        Shutdown {
             found: VecDeque::new(alloc),
             graves: VecDeque::from_vec(graves),
             swept: Vec::new(alloc),
@@ -202,7 +202,7 @@ impl Closing {
         ensures swept { result.swept.items ≡ self.swept }
         ensures noticed { result.noticed.items ≡ self.noticed }
     {
-        let Closing {
+        let Shutdown {
             found: _,
             graves: _,
             swept,
@@ -213,8 +213,8 @@ impl Closing {
         Ended { swept, noticed }
     }
 
-    // Closes and sweeps the ports that were found, and looks for those of the next discarded
-    // envelope. Whether there was one.
+    /// Closes and sweeps the ports that were found, and looks for those of the next discarded
+    /// envelope. Whether there was one.
     fn close_further<R: Wait>(&mut self, rt: &R, hub: &Hub) -> Result<bool, OutOfMemory>
         ensures further { NamedBehind (closing_ends self.old) (closing_ends self.new)
             self.old.noticed self.new.noticed }
@@ -244,7 +244,7 @@ impl Closing {
         rt: &R,
         hub: &Hub,
         directory: &Directory,
-        kept: &mut Option<Delivery>,
+        kept: &mut Option<Undelivered>,
     ) -> Result<(), OutOfMemory>
         ensures further { NamedBehind (closing_ends self.old) (closing_ends self.new)
             self.old.noticed self.new.noticed }

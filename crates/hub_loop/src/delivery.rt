@@ -13,22 +13,22 @@ use std::marker::Model;
 use std::sync::Wait;
 
 /// An envelope that was taken and of which the handler has not yet taken note.
-pub(crate) struct Delivery {
+pub(crate) struct Undelivered {
     pub(crate) envelope: Envelope,
     /// `None` where its ports were not looked for yet.
     pub(crate) arrival: Option<Receiving>,
 }
 
 // By hand, so that whoever drops one makes one call, and its proof has no cases of its fields.
-impl Drop for Delivery {
+impl Drop for Undelivered {
     fn drop(self) {
-        let Delivery { envelope, arrival } = self;
+        let Undelivered { envelope, arrival } = self;
         drop(envelope);
         drop(arrival);
     }
 }
 
-impl Model for Delivery {
+impl Model for Undelivered {
     ghost use Rattle.hub_loop.specs.States.{DeliveryState};
 
     ghost Value = { DeliveryState };
@@ -53,8 +53,8 @@ impl Model for Receiving {
     ghost view = { λ r. record { found = r.found.items; missing = r.missing.items } };
 }
 
-impl Delivery {
-    // Looks for the ports, where that wasn't done before.
+impl Undelivered {
+    /// Looks for the ports, where that wasn't done before.
     fn look<R: Wait>(&mut self, rt: &R, hub: &Hub) -> Result<(), OutOfMemory>
         ensures envelope { self.new.envelope ≡ self.old.envelope }
         ensures ok { IfOk result (λ _.

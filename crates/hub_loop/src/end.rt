@@ -10,11 +10,11 @@ ghost use Rattle.hub_loop.specs.Looping.{
 };
 ghost use Rattle.hub_loop.specs.States.{OpenState};
 
-use crate::closing::{Closing, Ended};
+use crate::closing::{Ended, Shutdown};
 use crate::ending::{Closed, leave_all, take_found, take_held, take_queues};
+use crate::error::LoopError;
 use crate::event_loop::EventLoop;
 use crate::handler::{Checkpoint, Handler};
-use crate::loop_error::LoopError;
 use hub_broadcast::Roster;
 use hub_clients::Directory;
 use hub_envelope::OutOfMemory;
@@ -61,8 +61,8 @@ impl<H: Handler + Drop, C: Checkpoint + Drop> EventLoop<H, C> {
         }
     }
 
-    // Takes out what is to be closed: what is held, the queues that were fetched, and the ports
-    // that were found for a kept delivery.
+    /// Takes out what is to be closed: what is held, the queues that were fetched, and the ports
+    /// that were found for a kept delivery.
     fn take_open(&mut self) -> Result<(), OutOfMemory>
         ensures moved { (passes : OpenState → Bool) →
             passing self.new passes ≡ passing self.old passes }
@@ -75,14 +75,14 @@ impl<H: Handler + Drop, C: Checkpoint + Drop> EventLoop<H, C> {
         take_found(&mut self.kept, &mut self.opened)
     }
 
-    // Closes what the loop has, in rising order of the numbers, or takes up how far an earlier call
-    // has come.
+    /// Closes what the loop has, in rising order of the numbers, or takes up how far an earlier
+    /// call has come.
     fn begin_closing<L: Lends<Roster>, R: Wait>(
         &mut self,
         rt: &R,
         hub: &Hub,
         roster: &mut L,
-    ) -> Result<Closing, OutOfMemory>
+    ) -> Result<Shutdown, OutOfMemory>
         ensures ok { IfOk result (λ closing.
             HasEnded self.old (closing_ends closing) closing.noticed) }
         ensures err { OnErr result (HasPaused self.old self.new) }
@@ -96,6 +96,6 @@ impl<H: Handler + Drop, C: Checkpoint + Drop> EventLoop<H, C> {
         leave_all(rt, roster, self.opened.as_slice());
         self.holding.closed.close_all(rt, hub, &mut self.opened)?;
         let closed = replace(&mut self.holding.closed, Closed::new(self.alloc));
-        Ok(Closing::new(self.alloc, closed))
+        Ok(Shutdown::new(self.alloc, closed))
     }
 }

@@ -38,7 +38,7 @@ ghost use Rattle.hub_loop.specs.States.{OpenState, open_held};
 ghost use Rattle.hub_loop.specs.Telling.{NoticesMore};
 
 use crate::closed::{ClosedEnd, ClosedPort};
-use crate::delivery::Delivery;
+use crate::delivery::Undelivered;
 use crate::held::Held;
 use hub_broadcast::Roster;
 use hub_clients::HandedQueue;
@@ -54,7 +54,7 @@ use std::sync::Wait;
 
 /// What is closed when a loop ends.
 #[derive(Drop)]
-pub(crate) struct Open {
+pub(crate) struct StillOpen {
     end: Opened,
 }
 
@@ -66,7 +66,7 @@ pub(crate) enum Opened {
     Arrived(Arrived),
 }
 
-impl Model for Open {
+impl Model for StillOpen {
     ghost use Rattle.hub_loop.specs.States.{OpenState, open_of};
 
     ghost Value = { OpenState };
@@ -74,16 +74,16 @@ impl Model for Open {
     ghost view = { λ o. open_of o.end };
 }
 
-impl Open {
+impl StillOpen {
     /// A queue that was fetched.
-    fn of_queue(queue: HandedQueue) -> Open
+    fn of_queue(queue: HandedQueue) -> StillOpen
         ensures { (passes : OpenState → Bool) → passes result ≡ queue_passes passes queue }
     {
         let held = match queue {
             HandedQueue::Client(queue) => Held::Client(queue),
             HandedQueue::Worker(queue) => Held::Worker(queue),
         };
-        Open {
+        StillOpen {
             end: Opened::Held(held),
         }
     }
@@ -98,7 +98,7 @@ impl Open {
         }
     }
 
-    // Closes it, a port with its notice. A line comes back.
+    /// Closes it, a port with its notice. A line comes back.
     fn close<R: Wait>(self, rt: &R, hub: &Hub) -> Result<ClosedEnd, Poster>
         ensures ok { IfOk result (IsOpenClosed self) }
         ensures err { IfErr result (λ line. self ≡ open_held (LineHeld line)) }
@@ -163,7 +163,7 @@ impl Closed {
     }
 
     /// Closes an end, or keeps a line.
-    pub(crate) fn close<R: Wait>(&mut self, rt: &R, hub: &Hub, opened: Open)
+    pub(crate) fn close<R: Wait>(&mut self, rt: &R, hub: &Hub, opened: StillOpen)
         requires graves { vec_len self.old.graves < vec_capacity self.old.graves }
         requires noticed { vec_len self.old.noticed < vec_capacity self.old.noticed }
         requires lines { vec_len self.old.lines < vec_capacity self.old.lines }
@@ -180,13 +180,13 @@ impl Closed {
         }
     }
 
-    /// Closes the last of these and so on, up to the first. After an error the others are still
+    /// Closes these from the last to the first. After an error those that weren't closed are still
     /// there.
     pub(crate) fn close_all<R: Wait>(
         &mut self,
         rt: &R,
         hub: &Hub,
-        all: &mut Vec<Open>,
+        all: &mut Vec<StillOpen>,
     ) -> Result<(), OutOfMemory>
         ensures moved { (e : ℕ) →
             count_by (is_grave e) self.new.graves.items + count_by (is_open e) all.new.items
@@ -206,7 +206,7 @@ impl Closed {
 
 /// Takes the members among these out of the roster, before the first end is closed: nobody casts at
 /// a member of an agent whose queue is closed already.
-pub(crate) fn leave_all<L: Lends<Roster>, R: Wait>(rt: &R, roster: &mut L, all: &[Open]) {
+pub(crate) fn leave_all<L: Lends<Roster>, R: Wait>(rt: &R, roster: &mut L, all: &[StillOpen]) {
     for opened in all {
         if let Opened::Held(held) = &opened.end {
             held.leave(rt, roster);
@@ -214,8 +214,8 @@ pub(crate) fn leave_all<L: Lends<Roster>, R: Wait>(rt: &R, roster: &mut L, all: 
     }
 }
 
-// Takes out what is held under a key.
-fn take_at(held: &mut Slab<Held>, key: usize, opened: &mut Vec<Open>)
+/// Takes out what is held under a key.
+fn take_at(held: &mut Slab<Held>, key: usize, opened: &mut Vec<StillOpen>)
     requires { vec_len opened.old < vec_capacity opened.old }
     ensures capacity { held.new.capacity ≡ held.old.capacity }
     ensures length { length held.new.slots ≡ length held.old.slots }
@@ -226,7 +226,7 @@ fn take_at(held: &mut Slab<Held>, key: usize, opened: &mut Vec<Open>)
         ≡ count_by (slot_passes passes) held.old.slots + count_by passes opened.old.items }
 {
     match held.try_remove(key) {
-        Some(held) => opened.push_reserved(Open {
+        Some(held) => opened.push_reserved(StillOpen {
             end: Opened::Held(held),
         }),
         None => {}
@@ -234,7 +234,10 @@ fn take_at(held: &mut Slab<Held>, key: usize, opened: &mut Vec<Open>)
 }
 
 /// Takes out all that is held.
-pub(crate) fn take_held(held: &mut Slab<Held>, opened: &mut Vec<Open>) -> Result<(), OutOfMemory>
+pub(crate) fn take_held(
+    held: &mut Slab<Held>,
+    opened: &mut Vec<StillOpen>,
+) -> Result<(), OutOfMemory>
     ensures capacity { held.new.capacity ≡ held.old.capacity }
     ensures rest { (key : ℕ) → (get held.new key ≡ None) ⊎ (get held.new key ≡ get held.old key) }
     ensures moved { (passes : OpenState → Bool) →
@@ -253,7 +256,7 @@ pub(crate) fn take_held(held: &mut Slab<Held>, opened: &mut Vec<Open>) -> Result
 /// Takes out the queues.
 pub(crate) fn take_queues(
     queues: &mut Vec<HandedQueue>,
-    opened: &mut Vec<Open>,
+    opened: &mut Vec<StillOpen>,
 ) -> Result<(), OutOfMemory>
     ensures moved { (passes : OpenState → Bool) →
         count_by (queue_passes passes) queues.new.items + count_by passes opened.new.items
@@ -263,15 +266,15 @@ pub(crate) fn take_queues(
     while !queues.is_empty() {
         opened.reserve(1)?;
         let queue = queues.pop().unwrap();
-        opened.push_reserved(Open::of_queue(queue));
+        opened.push_reserved(StillOpen::of_queue(queue));
     }
     Ok(())
 }
 
 /// Takes out the ports that were found for a delivery and not adopted yet.
 pub(crate) fn take_found(
-    kept: &mut Option<Delivery>,
-    opened: &mut Vec<Open>,
+    kept: &mut Option<Undelivered>,
+    opened: &mut Vec<StillOpen>,
 ) -> Result<(), OutOfMemory>
     ensures moved { (passes : OpenState → Bool) →
         count_by (arrived_passes passes) (found_of kept.new) + count_by passes opened.new.items
@@ -287,7 +290,7 @@ pub(crate) fn take_found(
     }
 }
 
-fn take_ports(found: &mut VecDeque<Arrived>, opened: &mut Vec<Open>) -> Result<(), OutOfMemory>
+fn take_ports(found: &mut VecDeque<Arrived>, opened: &mut Vec<StillOpen>) -> Result<(), OutOfMemory>
     ensures moved { (passes : OpenState → Bool) →
         count_by (arrived_passes passes) found.new.items + count_by passes opened.new.items
         ≡ count_by (arrived_passes passes) found.old.items + count_by passes opened.old.items }
@@ -296,7 +299,7 @@ fn take_ports(found: &mut VecDeque<Arrived>, opened: &mut Vec<Open>) -> Result<(
     while !found.is_empty() {
         opened.reserve(1)?;
         let arrived = found.pop_front().unwrap();
-        opened.push_reserved(Open {
+        opened.push_reserved(StillOpen {
             end: Opened::Arrived(arrived),
         });
     }

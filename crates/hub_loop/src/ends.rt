@@ -7,21 +7,21 @@ ghost use Rattle.hub_loop.specs.Holding.{end_held};
 ghost use Rattle.hub_loop.specs.Looking.{HoldsNoEnd};
 ghost use Rattle.hub_loop.specs.Marking.{AreMarked};
 ghost use Rattle.hub_loop.specs.Reaching.{AreReached};
-ghost use Rattle.hub_marks.specs.Marking.{HasBit};
+ghost use Rattle.hub_ready.specs.Marking.{HasBit};
 
 use crate::ending::Closed;
-use crate::held::{Held, Kind};
-use crate::loop_error::LoopError;
+use crate::error::LoopError;
+use crate::held::{Held, Sought};
 use hub_envelope::{EndId, OutOfMemory};
-use hub_marks::Ready;
 use hub_queue::Bell;
+use hub_ready::Ready;
 use slab::Slab;
 use std::alloc::Global;
 use std::collections::BTreeSet;
 
 /// The ends and the lines that a loop holds.
 #[derive(Drop)]
-pub(crate) struct Ends {
+pub(crate) struct HeldEnds {
     /// Each under its key.
     pub(crate) held: Slab<Held>,
     /// The key with which the next asking begins.
@@ -34,7 +34,7 @@ pub(crate) struct Ends {
     ghost reached: { AreReached held ready },
 }
 
-// Lists a line that is to be held under this key.
+/// Lists a line that is to be held under this key.
 fn list_line(
     lines: &mut BTreeSet<(EndId, usize)>,
     held: &Held,
@@ -46,7 +46,7 @@ fn list_line(
     Ok(())
 }
 
-impl Ends {
+impl HeldEnds {
     /// Holds one more, for which there is room. An end is marked, since something may wait there.
     pub(crate) fn put(&mut self, held: Held)
         requires room { HasRoomFor self.old.held 1 }
@@ -106,7 +106,7 @@ impl Ends {
         ensures missing { IfNone result (HoldsNoEnd self.old.held end) }
         ensures next { self.new.next ≡ self.old.next }
     {
-        let key = self.find_end(Kind::End, end)?;
+        let key = self.find_end(Sought::End, end)?;
         self.ready.forget(end, key);
         self.held.try_remove(key)
     }
@@ -115,7 +115,7 @@ impl Ends {
 /// What a loop holds, and the ports that it has closed because they could not be adopted.
 pub(crate) struct Holding {
     pub(crate) bell: Bell,
-    pub(crate) ends: Ends,
+    pub(crate) ends: HeldEnds,
     /// The ports that could not be adopted.
     pub(crate) closed: Closed,
 }
@@ -134,11 +134,12 @@ impl Holding {
     /// Nothing is held. It takes no memory.
     pub(crate) fn new(alloc: Global, bell: Bell) -> Holding
         ensures held { result.ends.held.slots ≡ [] }
+        ensures bell { result.bell ≡ bell }
         ensures closed { result.closed.graves.items ≡ [] }
     {
         Holding {
             bell,
-            ends: Ends {
+            ends: HeldEnds {
                 held: Slab::new(alloc),
                 next: 0,
                 ready: Ready::new(alloc),

@@ -10,6 +10,7 @@ ghost use Rattle.std.specs.Prelude.{
   OnOk,
   IfOk,
   OnErr,
+  IfNone,
   IfSome,
   ◌≤◌,
   vec_len,
@@ -17,9 +18,10 @@ ghost use Rattle.std.specs.Prelude.{
   [],
   length,
 };
+ghost use Rattle.hub_bell.specs.Seats.{new_at};
 ghost use Rattle.hub_clients.specs.Handing.{taker_of};
 ghost use Rattle.hub_life.specs.OrderSeat.{knows};
-ghost use Rattle.hub_loop.specs.Adopting.{IsFetched, SameStored};
+ghost use Rattle.hub_loop.specs.Adopting.{IsFetched, IsTakenFrom, KeepsOthers, SameStored};
 ghost use Rattle.hub_loop.specs.Looping.{
   MakesTurn,
   SameButFetched,
@@ -34,13 +36,13 @@ ghost use Rattle.hub_loop.specs.TakingNothing.{Gave, TookNothingBut};
 ghost use Rattle.hub_loop.specs.Turning.{store_of};
 ghost use Rattle.hub_loop.specs.declared.handler.Turn.TheVariants.{Ending};
 
-use crate::closing::Closing;
-use crate::delivery::Delivery;
-use crate::ending::Open;
+use crate::closing::Shutdown;
+use crate::delivery::Undelivered;
+use crate::ending::StillOpen;
 use crate::ends::Holding;
+use crate::error::LoopError;
 use crate::handler::{Checkpoint, Handler, Turn};
 use crate::held::Held;
-use crate::loop_error::LoopError;
 use crate::serving::Served;
 use hub_clients::{Directory, HandedQueue};
 use hub_envelope::{AgentId, EndId, OutOfMemory};
@@ -73,13 +75,13 @@ pub struct EventLoop<H: Handler + Drop, C: Checkpoint + Drop> {
     pub(crate) checkpoint: C,
     pub(crate) holding: Holding,
     /// A delivery of which the handler has not taken note yet, for want of memory.
-    pub(crate) kept: Option<Delivery>,
+    pub(crate) kept: Option<Undelivered>,
     /// Queues that were fetched and not adopted yet, for want of memory.
     pub(crate) fetched: Vec<HandedQueue>,
     /// What an `end` that was stopped by want of memory has taken out and not closed yet.
-    pub(crate) opened: Vec<Open>,
+    pub(crate) opened: Vec<StillOpen>,
     /// How far it has come after that.
-    pub(crate) closing: Option<Closing>,
+    pub(crate) closing: Option<Shutdown>,
     /// How many deliveries were made.
     pub(crate) delivered: u64,
 }
@@ -147,6 +149,8 @@ impl<H: Handler + Drop, C: Checkpoint + Drop> EventLoop<H, C> {
         ensures kept { IfOk result (λ opened. opened.kept ≡ None) }
         ensures handler { IfOk result (λ opened. opened.handler ≡ handler) }
         ensures order { IfOk result (λ opened. opened.order ≡ order) }
+        ensures listener { IfOk result (λ opened. (opened.listener ≡ bell)
+            × (opened.holding.bell ≡ new_at bell.board)) }
         ensures rest { IfOk result (λ opened. (opened.fetched ≡ [])
             × (opened.opened ≡ []) × (opened.holding.closed.graves ≡ [])
             × (opened.closing ≡ None)) }
@@ -168,13 +172,13 @@ impl<H: Handler + Drop, C: Checkpoint + Drop> EventLoop<H, C> {
         })
     }
 
-    // Takes up the delivery that was kept, or else asks the ends. Where none gave an envelope it
-    // says whether one was busy. The checkpoint is called once for each envelope.
+    /// Takes up the delivery that was kept, or else asks the ends. Where none gave an envelope it
+    /// says whether one was busy. The checkpoint is called once for each envelope.
     fn take_up<L: Ledger, R: Wait>(
         &mut self,
         rt: &R,
         steps: &mut Steps<L>,
-    ) -> Result<Delivery, bool>
+    ) -> Result<Undelivered, bool>
         ensures due { TakesUp self.old self.new steps.old steps.new result }
         ensures keys { self.old.kept ≡ None →
             length self.old.holding.held.slots ≤ self.old.holding.held.capacity }
@@ -188,7 +192,7 @@ impl<H: Handler + Drop, C: Checkpoint + Drop> EventLoop<H, C> {
             Served::Nothing(busy) => Err(busy),
             Served::Given(_, envelope) => {
                 self.checkpoint.at(rt, self.agent, self.delivered);
-                Ok(Delivery {
+                Ok(Undelivered {
                     envelope,
                     arrival: None,
                 })
@@ -300,6 +304,7 @@ impl<H: Handler + Drop, C: Checkpoint + Drop> EventLoop<H, C> {
             (store_of self.old.holding) (store_of self.new.holding) end) }
         ensures err { OnErr result (SameStored
             (store_of self.old.holding) (store_of self.new.holding)) }
+        ensures others { KeepsOthers end self.old.fetched self.new.fetched }
         ensures marked { AreMarked self.old.holding.held self.old.holding.ready
             self.new.holding.held self.new.holding.ready }
         ensures rest { SameButFetched self.old self.new }
@@ -318,7 +323,7 @@ impl<H: Handler + Drop, C: Checkpoint + Drop> EventLoop<H, C> {
     }
 }
 
-// Takes the queue of this number out of those that were fetched, or else out of the directory.
+/// Takes the queue of this number out of those that were fetched, or else out of the directory.
 fn take_fetched<R: Wait>(
     rt: &R,
     directory: &Directory,
@@ -327,6 +332,8 @@ fn take_fetched<R: Wait>(
     agent: AgentId,
 ) -> Option<HandedQueue>
     ensures queue { IfSome result (λ queue. (taker_of queue).end ≡ end.0) }
+    ensures taken { IfSome result (λ queue. IsTakenFrom queue fetched.old.items fetched.new.items) }
+    ensures none { IfNone result (fetched.new.items ≡ fetched.old.items) }
     ensures len { vec_len fetched.new ≤ vec_len fetched.old }
     ensures capacity { vec_capacity fetched.new ≡ vec_capacity fetched.old }
 {

@@ -7,23 +7,23 @@ ghost use Rattle.hub_loop.specs.Holding.{ends_held};
 ghost use Rattle.hub_loop.specs.Looking.{IsEndOf, IsFound, IsLineTo, IsSlotOf};
 ghost use Rattle.hub_loop.specs.Marking.{AreMarked};
 ghost use Rattle.hub_loop.specs.Starting.{IsStartedAs};
-ghost use Rattle.hub_marks.specs.Marking.{mark_of, ClearBetween, IsFirstFrom};
+ghost use Rattle.hub_ready.specs.Marking.{mark_of, ClearBetween, IsFirstFrom};
 
-use crate::ends::Ends;
-use crate::held::{Held, Kind};
+use crate::ends::HeldEnds;
+use crate::held::{Held, Sought};
 use hub_envelope::{EndId, OutOfMemory};
-use hub_marks::Marks;
+use hub_ready::Marks;
 use std::alloc::Global;
 use std::collections::BTreeSet;
 
-// The least key that is listed under this number.
+/// The least key that is listed under this number.
 fn key_of(lines: &BTreeSet<(EndId, usize)>, end: EndId) -> Option<usize> {
     let found = lines.range((end, 0)..=(end, usize::MAX)).next()?;
     Some(found.1)
 }
 
-// Whether the end of this kind and number is held there.
-fn is_end(slot: Option<&Held>, kind: Kind, end: EndId) -> bool
+/// Whether the end of this kind and number is held there.
+fn is_end(slot: Option<&Held>, kind: Sought, end: EndId) -> bool
     ensures { (result ≡ true) ↔ IsSlotOf (IsEndOf kind end) (option_copied slot.entry) }
 {
     match slot {
@@ -32,7 +32,7 @@ fn is_end(slot: Option<&Held>, kind: Kind, end: EndId) -> bool
     }
 }
 
-// Whether a line that posts at the end of this number is held there.
+/// Whether a line that posts at the end of this number is held there.
 fn is_line(slot: Option<&Held>, end: EndId) -> bool
     ensures { (result ≡ true) ↔ IsSlotOf (IsLineTo end) (option_copied slot.entry) }
 {
@@ -42,7 +42,7 @@ fn is_line(slot: Option<&Held>, end: EndId) -> bool
     }
 }
 
-// The first marked key from the one up to the other.
+/// The first marked key from the one up to the other.
 pub(crate) fn next_marked(marks: &Marks, low: usize, high: usize) -> Option<usize>
     ensures some { IfSome result (λ key. (key < high) × IsFirstFrom marks.now low key) }
     ensures none { IfNone result (ClearBetween marks.now low high) }
@@ -54,9 +54,9 @@ pub(crate) fn next_marked(marks: &Marks, low: usize, high: usize) -> Option<usiz
     Some(key)
 }
 
-impl Ends {
-    // The marked key under which the end of this kind and number is held.
-    fn find_marked(&self, kind: Kind, end: EndId) -> Option<usize>
+impl HeldEnds {
+    /// The marked key under which the end of this kind and number is held.
+    fn find_marked(&self, kind: Sought, end: EndId) -> Option<usize>
         ensures some { IfSome result (λ key. IsSlotOf (IsEndOf kind end) (get self.now.held key)) }
         ensures none { IfNone result ((key : ℕ) → mark_of self.now.ready.marks key ≡ 1 →
             IsSlotOf (IsEndOf kind end) (get self.now.held key) → ⊥) }
@@ -73,7 +73,7 @@ impl Ends {
     }
 
     /// The key of the end of this kind and number. Its number leads there, unless it is marked.
-    pub(crate) fn find_end(&self, kind: Kind, end: EndId) -> Option<usize>
+    pub(crate) fn find_end(&self, kind: Sought, end: EndId) -> Option<usize>
         ensures { IsFound (IsEndOf kind end) self.now.held result }
     {
         if let Some(key) = self.ready.key_of(end) {
@@ -115,7 +115,7 @@ impl Ends {
 
     /// Enables the end of this kind and number, and marks it: something may wait there. Whether it
     /// is held.
-    pub(crate) fn start_kind(&mut self, kind: Kind, end: EndId) -> bool
+    pub(crate) fn start_kind(&mut self, kind: Sought, end: EndId) -> bool
         ensures held { IsStartedAs kind self.old.held self.new.held end result }
         ensures marked { AreMarked self.old.held self.old.ready self.new.held self.new.ready }
         ensures next { self.new.next ≡ self.old.next }

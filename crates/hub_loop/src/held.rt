@@ -5,7 +5,7 @@ ghost use Rattle.hub_queue.specs.Standing.{StandSeat};
 ghost use Rattle.hub_queue.specs.Taking.{TakerSeat};
 ghost use Rattle.hub_loop.specs.Asking.{IsHeldAsked, IsHeldTaken};
 ghost use Rattle.hub_loop.specs.Closing.{IsEndClosed, left_by};
-ghost use Rattle.hub_loop.specs.Holding.{behind_of, end_held, number_of, seat_of};
+ghost use Rattle.hub_loop.specs.Holding.{behind_of, end_held, number_held, seat_of};
 ghost use Rattle.hub_loop.specs.Looking.{is_a};
 ghost use Rattle.hub_loop.specs.Starting.{started_held};
 ghost use Rattle.hub_loop.specs.declared.held.Held.TheVariants.{
@@ -37,7 +37,7 @@ pub enum Held {
 
 /// Which of the ends that are held is looked for, beside its number.
 #[derive(Clone, Copy)]
-pub(crate) enum Kind {
+pub(crate) enum Sought {
     /// One of any kind.
     End,
     Port,
@@ -48,7 +48,7 @@ pub(crate) enum Kind {
 impl Held {
     /// The number of the end, or of the end at which the line posts.
     pub fn end(&self) -> EndId
-        ensures { result ≡ number_of self.now }
+        ensures { result ≡ number_held self.now }
     {
         match self {
             Held::Port(port) => port.end(),
@@ -70,14 +70,14 @@ impl Held {
     }
 
     /// Whether it is an end of this kind.
-    pub(crate) fn is_a(&self, kind: Kind) -> bool
+    pub(crate) fn is_a(&self, kind: Sought) -> bool
         ensures { result ≡ is_a kind self.now }
     {
         match self {
-            Held::Port(_) => matches!(kind, Kind::End | Kind::Port),
-            Held::Client(_) => matches!(kind, Kind::End | Kind::Client),
-            Held::Worker(_) => matches!(kind, Kind::End),
-            Held::Member(_) => matches!(kind, Kind::End | Kind::Member),
+            Held::Port(_) => matches!(kind, Sought::End | Sought::Port),
+            Held::Client(_) => matches!(kind, Sought::End | Sought::Client),
+            Held::Worker(_) => matches!(kind, Sought::End),
+            Held::Member(_) => matches!(kind, Sought::End | Sought::Member),
             Held::Line(_) => false,
         }
     }

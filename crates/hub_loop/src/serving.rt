@@ -2,14 +2,14 @@
 ghost use Rattle.std.specs.Prelude.{◌≡◌, ◌≤◌, length, List, true};
 ghost use Rattle.slab.specs.Slab.{get};
 ghost use Rattle.hub_bell.specs.declared.board.BoardStep.{BoardStep};
-ghost use Rattle.hub_marks.specs.Finding.{HasStepped};
-ghost use Rattle.hub_marks.specs.Marking.{SameBut};
+ghost use Rattle.hub_ready.specs.Finding.{HasStepped};
+ghost use Rattle.hub_ready.specs.Marking.{SameBut};
 ghost use Rattle.hub_loop.specs.Scanning.{
   AreAllServed,
   AreAskedBetween,
   AreMarkedAsked,
   AreMarkedServed,
-  ends_of,
+  held_ends,
   IsListedAt,
   IsRange,
   IsServed,
@@ -22,12 +22,12 @@ ghost use Rattle.hub_loop.specs.Serving.{
   IsAskedAt,
 };
 
-use crate::ends::Ends;
+use crate::ends::HeldEnds;
 use crate::finding::next_marked;
 use crate::held::Held;
 use hub_envelope::Envelope;
-use hub_marks::Ready;
 use hub_queue::{Listener, Steps, Took};
+use hub_ready::Ready;
 use slab::Slab;
 use std::sync::Wait;
 use std::sync::ledger::Ledger;
@@ -43,7 +43,7 @@ pub(crate) enum Served {
 }
 
 impl Served {
-    // What the answer of the end under this key comes to; of a line and of nothing there is none.
+    /// What the answer of the end under this key comes to; of a line and of nothing there is none.
     fn by(key: usize, answer: Option<Took>) -> Served
         ensures { result ≡ served_by key answer }
     {
@@ -57,7 +57,7 @@ impl Served {
     }
 }
 
-// Asks the end under a key, if there is one.
+/// Asks the end under a key, if there is one.
 fn ask_at<L: Ledger, R: Wait>(
     rt: &R,
     held: &mut Slab<Held>,
@@ -72,8 +72,8 @@ fn ask_at<L: Ledger, R: Wait>(
     }
 }
 
-// Whether an end that gave nothing can go without its mark: its number leads to it. One that wasn't
-// enabled is marked again by the loan in which it is.
+/// Whether an end that gave nothing can go without its mark: its number leads to it. One that
+/// wasn't enabled is marked again by the loan in which it is.
 fn is_listed(held: &Slab<Held>, ready: &Ready, key: usize) -> bool
     ensures { result ≡ true → IsListedAt ready.now.listed.items key (get held.now key) }
 {
@@ -89,8 +89,8 @@ fn is_listed(held: &Slab<Held>, ready: &Ready, key: usize) -> bool
 /// How many ends are asked in order before the loop looks which were rung.
 const A_TIME: usize = 64;
 
-impl Ends {
-    // Asks the end under a key, if there is one. Its mark stays where more may wait there.
+impl HeldEnds {
+    /// Asks the end under a key, if there is one. Its mark stays where more may wait there.
     fn ask<L: Ledger, R: Wait>(&mut self, rt: &R, key: usize, steps: &mut Steps<L>) -> Served
         ensures asked { IsAskedAt self.old.held self.new.held key steps.old steps.new result }
         ensures others { SameBut key self.old.ready.marks self.new.ready.marks }
@@ -109,7 +109,7 @@ impl Ends {
         served
     }
 
-    // Asks the marked ends under these keys in order, up to the first that gives an envelope.
+    /// Asks the marked ends under these keys in order, up to the first that gives an envelope.
     fn ask_marked<L: Ledger, R: Wait>(
         &mut self,
         rt: &R,
@@ -118,7 +118,7 @@ impl Ends {
         steps: &mut Steps<L>,
     ) -> Served
         requires { high ≤ self.old.held.capacity }
-        ensures asked { AreMarkedAsked low high (ends_of self.old) (ends_of self.new)
+        ensures asked { AreMarkedAsked low high (held_ends self.old) (held_ends self.new)
             steps.old steps.new result }
     {
         let mut busy = false;
@@ -133,9 +133,9 @@ impl Ends {
         Served::Nothing(busy)
     }
 
-    // Asks the marked ends in order, from the next key on and then from the first.
+    /// Asks the marked ends in order, from the next key on and then from the first.
     fn serve_marked<L: Ledger, R: Wait>(&mut self, rt: &R, steps: &mut Steps<L>) -> Served
-        ensures served { AreMarkedServed (ends_of self.old) (ends_of self.new)
+        ensures served { AreMarkedServed (held_ends self.old) (held_ends self.new)
             steps.old steps.new result }
         ensures keys { length self.old.held.slots ≤ self.old.held.capacity }
     {
@@ -150,8 +150,8 @@ impl Ends {
         }
     }
 
-    // Before some of the keys it looks which ends were rung, and asks the marked ones where there
-    // may be one.
+    /// Before some of the keys it looks which ends were rung, and asks the marked ones where there
+    /// may be one.
     fn serve_rung<L: Ledger, R: Wait>(
         &mut self,
         rt: &R,
@@ -159,7 +159,7 @@ impl Ends {
         key: usize,
         steps: &mut Steps<L>,
     ) -> Served
-        ensures served { AreMarkedServed (ends_of self.old) (ends_of self.new)
+        ensures served { AreMarkedServed (held_ends self.old) (held_ends self.new)
             steps.old steps.new result }
         ensures looks { (looks : List BoardStep) × HasStepped listener.old listener.new looks }
     {
@@ -172,8 +172,8 @@ impl Ends {
         self.serve_marked(rt, steps)
     }
 
-    // Asks each end under these keys in order, up to the first that gives an envelope. From time to
-    // time it looks which ends were rung, and serves them first.
+    /// Asks each end under these keys in order, up to the first that gives an envelope. From time
+    /// to time it looks which ends were rung, and serves them first.
     fn ask_between<L: Ledger, R: Wait>(
         &mut self,
         rt: &R,
@@ -183,7 +183,7 @@ impl Ends {
         steps: &mut Steps<L>,
     ) -> Served
         requires { (low ≤ high) × (high ≤ self.old.held.capacity) × IsRange low high self.old.next }
-        ensures served { AreAskedBetween low high (ends_of self.old) (ends_of self.new)
+        ensures served { AreAskedBetween low high (held_ends self.old) (held_ends self.new)
             steps.old steps.new result }
         ensures looks { (looks : List BoardStep) × HasStepped listener.old listener.new looks }
     {
@@ -201,15 +201,15 @@ impl Ends {
         Served::Nothing(busy)
     }
 
-    // Asks each end in order, from the next key on and then from the first, up to the first that
-    // gives an envelope.
+    /// Asks each end in order, from the next key on and then from the first, up to the first that
+    /// gives an envelope.
     fn serve_all<L: Ledger, R: Wait>(
         &mut self,
         rt: &R,
         listener: &mut Listener,
         steps: &mut Steps<L>,
     ) -> Served
-        ensures served { AreAllServed (ends_of self.old) (ends_of self.new)
+        ensures served { AreAllServed (held_ends self.old) (held_ends self.new)
             steps.old steps.new result }
         ensures looks { (looks : List BoardStep) × HasStepped listener.old listener.new looks }
     {
@@ -224,8 +224,8 @@ impl Ends {
         }
     }
 
-    // Looks which ends were rung, and asks the marked ends; where none of them gives an envelope
-    // all are asked.
+    /// Looks which ends were rung, and asks the marked ends; where none of them gives an envelope
+    /// all are asked.
     fn serve_first<L: Ledger, R: Wait>(
         &mut self,
         rt: &R,

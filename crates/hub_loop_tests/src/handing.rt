@@ -61,7 +61,7 @@ impl Pause for Meanwhile<'_> {
     }
 }
 
-// Whether a text is accepted over a line under this epoch and number.
+/// Whether a text is accepted over a line under this epoch and number.
 fn posts<R: Wait>(
     rt: &R,
     shared: &Shared,
@@ -91,7 +91,7 @@ impl Stage<'_> {
         }
     }
 
-    // Whether the queue has gone on, and is left to the first loop no more.
+    /// Whether the queue has gone on, and is left to the first loop no more.
     fn moves<R: Wait>(&mut self, rt: &R) -> bool {
         let (hub, directory) = (&self.shared.hub, &self.shared.directory);
         self.hands(rt)
@@ -112,7 +112,7 @@ impl Stage<'_> {
         is_idle(rt, &self.shared.hub, &mut self.to, busy)
     }
 
-    // Of what was posted meanwhile only what went to the first loop's queue is served.
+    /// Of what was posted meanwhile only what went to the first loop's queue is served.
     fn goes_on_alone<R: Wait>(&mut self, rt: &R) -> bool {
         posts(rt, self.shared, &mut self.line, "\"b\"", (0, 0))
             && self.moves(rt)
@@ -123,7 +123,7 @@ impl Stage<'_> {
             && self.rests(rt, true)
     }
 
-    // The queue stays busy, and another end is served.
+    /// The queue stays busy, and another end is served.
     fn goes_on_beside<R: Wait>(&mut self, rt: &R) -> bool {
         self.moves(rt)
             && self.to.start_client(EndId(0))
@@ -137,8 +137,8 @@ impl Stage<'_> {
             && self.gets(rt, (1, 0, 0, 1), "2")
     }
 
-    // The post that was held up has rung the loop that the queue has left. It is served all the
-    // same, and then what is left.
+    /// The post that was held up has rung the loop that the queue has left. It is served all the
+    /// same, and then what is left.
     fn ends<R: Wait>(&mut self, rt: &R) -> bool {
         let is_served = self.gets(rt, (0, 0, 0, 0), "\"a\"")
             && if self.is_beside {
@@ -150,7 +150,7 @@ impl Stage<'_> {
     }
 }
 
-// The stage, and the line for the post that is to be held up.
+/// The stage, and the line for the post that is to be held up.
 fn set<'s, R: Wait>(rt: &R, shared: &'s Shared, is_beside: bool) -> Option<(Stage<'s>, Poster)> {
     let (mut from, bell) = open(shared.alloc, 0)?;
     let (mut to, other_bell) = open(shared.alloc, 3)?;
@@ -190,7 +190,7 @@ fn walks_on<R: Wait>(rt: &R, shared: &Shared, is_beside: bool) -> Option<bool> {
     Some(is_right)
 }
 
-// Whether an agent that has handed its queue on makes another one.
+/// Whether an agent that has handed its queue on makes another one.
 fn makes_another<R: Wait>(rt: &R, shared: &Shared) -> Option<bool> {
     let bell = bell(shared.alloc)?;
     let queue = shared

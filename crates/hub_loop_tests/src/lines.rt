@@ -2,24 +2,31 @@
 use crate::left::is_left;
 use crate::parts::{Shared, holds, is_idle, open};
 use hub_envelope::{AgentId, EndId};
-use hub_loop::Held;
+use hub_loop::{Held, Way};
 use hub_ports::{Hub, channel};
 use hub_queue::{Bell, Ends, Mailbox, Poster};
 use hub_test_parts::{Loop, body};
 use std::alloc::Global;
 use std::sync::Wait;
 
-// A line to another end 1.
+/// A line to another end 1.
 fn strange_line(alloc: Global, bell: Bell) -> Option<Poster> {
     let (taker, mut posters) = Mailbox::open(alloc, EndId(1), 1, bell).ok()?;
     drop(taker);
     posters.pop()
 }
 
-// Posts over the line of that number, and no end of the loop gets it.
+/// Posts over the line of that number, and no end of the loop gets it.
 fn sends<R: Wait>(rt: &R, alloc: Global, hub: &Hub, event_loop: &mut Loop) -> Option<bool> {
     let body = body(alloc, "2")?;
-    let sent = event_loop.send(rt, hub, AgentId(0), EndId(1), body, Vec::new(alloc));
+    let sent = event_loop.post(
+        rt,
+        hub,
+        AgentId(0),
+        Way::Line(EndId(1)),
+        body,
+        Vec::new(alloc),
+    );
     let is_accepted = match &sent {
         Ok(Ok(posted)) => posted.epoch == 0 && posted.number == 0,
         _ => false,
@@ -43,7 +50,7 @@ fn holds_again(event_loop: &mut Loop) -> bool {
     }
 }
 
-// The loop holds port 1 and then the line. The directory doesn't take that back.
+/// The loop holds port 1 and then the line. The directory doesn't take that back.
 fn lends<R: Wait>(rt: &R, shared: &Shared, mut event_loop: Loop, line: Poster) -> Option<bool> {
     let had_line = event_loop.has_line(EndId(1));
     let is_held = holds(&mut event_loop, Held::Line(line));

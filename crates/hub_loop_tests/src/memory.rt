@@ -9,7 +9,7 @@ use hub_test_parts::{Loop, post};
 use std::alloc::Global;
 use std::sync::Wait;
 
-// What a loop leaves. Where there was no memory the next call goes on.
+/// What a loop leaves. Where there was no memory the next call goes on.
 fn ended<R: Wait>(rt: &R, shared: &Shared, event_loop: Loop) -> Option<Ended> {
     match event_loop.end(
         rt,
@@ -31,7 +31,7 @@ fn ended<R: Wait>(rt: &R, shared: &Shared, event_loop: Loop) -> Option<Ended> {
     }
 }
 
-// A queue that the loop keeps is swept when it ends; one that is handed still is not.
+/// A queue that the loop keeps is swept when it ends; one that is handed still is not.
 fn sweeps<R: Wait>(rt: &R, shared: &Shared, mut event_loop: Loop) -> Option<bool> {
     let is_there = match event_loop.fetch(rt, &shared.hub, &shared.directory, EndId(0)) {
         Ok(is_held) => is_held,
@@ -49,7 +49,7 @@ fn sweeps<R: Wait>(rt: &R, shared: &Shared, mut event_loop: Loop) -> Option<bool
     Some(is_there && is_right)
 }
 
-// What was posted before the queue was handed on.
+/// What was posted before the queue was handed on.
 fn posts_and_hands<R: Wait>(
     rt: &R,
     shared: &Shared,
@@ -80,7 +80,7 @@ fn keeps<R: Wait>(rt: &R, shared: &Shared) -> Option<bool> {
     Some(is_handed && is_swept && is_closed)
 }
 
-// `None` where there was no memory for anything but the fetch.
+/// `None` where there was no memory for anything but the fetch.
 fn try_keeps<R: Wait>(rt: &R, alloc: Global) -> Option<bool> {
     let shared = Shared::new(alloc);
     let is_kept = keeps(rt, &shared);

@@ -4,7 +4,7 @@ use hub_broadcast::SharedRoster;
 use hub_clients::Directory;
 use hub_envelope::{AgentId, EndId, Envelope};
 use hub_life::Order;
-use hub_loop::{Held, Turn};
+use hub_loop::{Held, Turn, Way};
 use hub_ports::{Hub, Port, PortError};
 use hub_queue::{Bell, Listener};
 use hub_test_parts::{Delivered, Loop, body, is_message, open_loop, release_port, turn};
@@ -49,7 +49,7 @@ fn turned<R: Wait>(rt: &R, hub: &Hub, event_loop: &mut Loop) -> Option<Turn> {
     turn(rt, hub, event_loop).ok()
 }
 
-// The message that a turn delivers.
+/// The message that a turn delivers.
 fn delivery<R: Wait>(rt: &R, hub: &Hub, event_loop: &mut Loop) -> Option<Delivered> {
     if turned(rt, hub, event_loop) != Some(Turn::Delivered) {
         return None;
@@ -108,7 +108,7 @@ pub(crate) fn notices<R: Wait>(rt: &R, hub: &Hub, event_loop: &mut Loop, name: N
     is_right
 }
 
-// The ports to be sent along.
+/// The ports to be sent along.
 fn sent_along(alloc: Global, event_loop: &mut Loop, sent: Option<u32>) -> Option<Vec<Port>> {
     let mut ports = Vec::with_capacity(alloc, 1).ok()?;
     if let Some(end) = sent {
@@ -136,7 +136,14 @@ pub(crate) fn post_port<R: Wait>(
 ) -> Option<Answer> {
     let body = body(shared.alloc, text)?;
     let transfer = sent_along(shared.alloc, event_loop, sent)?;
-    match event_loop.post(rt, &shared.hub, AgentId(0), EndId(end), body, transfer) {
+    match event_loop.post(
+        rt,
+        &shared.hub,
+        AgentId(0),
+        Way::Port(EndId(end)),
+        body,
+        transfer,
+    ) {
         Ok(Ok(posted)) => Some(Answer::Accepted(posted.epoch, posted.number)),
         Ok(Err(PortError::Closed(body, back))) => {
             drop(body);

@@ -11,7 +11,7 @@ use hub_test_parts::Loop;
 use std::alloc::Global;
 use std::sync::Wait;
 
-// Two ports of the next numbers, which these loops hold.
+/// Two ports of the next numbers, which these loops hold.
 fn opens(
     alloc: Global,
     ends: &mut Ends,
@@ -25,7 +25,7 @@ fn opens(
     Some(has_one && has_other)
 }
 
-// Two ports of the next numbers, which this loop holds.
+/// Two ports of the next numbers, which this loop holds.
 fn opens_both(alloc: Global, ends: &mut Ends, both: &mut Loop, bell: &Bell) -> Option<bool> {
     let (one, other) = channel(alloc, ends, bell.clone().ok()?).ok()?;
     let has_one = holds(both, Held::Port(one));
@@ -33,7 +33,7 @@ fn opens_both(alloc: Global, ends: &mut Ends, both: &mut Loop, bell: &Bell) -> O
     Some(has_one && has_other)
 }
 
-// Port 3 is sent to the first loop, which adopts it.
+/// Port 3 is sent to the first loop, which adopts it.
 fn adopts_port<R: Wait>(
     rt: &R,
     shared: &Shared,
@@ -51,7 +51,7 @@ fn adopts_port<R: Wait>(
     Some(are_open && is_adopted)
 }
 
-// Another port 3 is sent there. It is closed with its notice, and counts as missing.
+/// Another port 3 is sent there. It is closed with its notice, and counts as missing.
 fn refuses_port<R: Wait>(
     rt: &R,
     shared: &Shared,
@@ -73,7 +73,7 @@ fn refuses_port<R: Wait>(
     Some(are_open && is_missing && is_told)
 }
 
-// The port that was refused is swept when the loop ends.
+/// The port that was refused is swept when the loop ends.
 fn sweeps_port<R: Wait>(rt: &R, shared: &Shared, first: Loop, second: &mut Loop) -> Option<bool> {
     let posted = post_port(rt, shared, second, 2, None, "4");
     let ended = first.end(
@@ -114,13 +114,13 @@ fn a_port_whose_number_is_taken_is_closed(rt: HostRuntime) {
     assert!(rt; is_closed == Some(true));
 }
 
-// Hands a queue of the number 0 to agent 1.
+/// Hands a queue of the number 0 to agent 1.
 fn hands<R: Wait>(rt: &R, shared: &Shared, queue: ClientQueue) -> bool {
     queue.hand(rt, &shared.directory, AgentId(1)).ok().is_some()
 }
 
-// The worker's queue 0 is fetched, and another queue 0 is not. That is closed, and not there for
-// another call. It is swept when the loop ends.
+/// The worker's queue 0 is fetched, and another queue 0 is not. That is closed, and not there for
+/// another call. It is swept when the loop ends.
 fn closes_queue<R: Wait>(
     rt: &R,
     shared: &Shared,

@@ -4,11 +4,11 @@ use Rattle.std.specs.Prelude.{codes}
 use Rattle.hub_run.specs.Runs.{AreLogsFor}
 use Rattle.hub_script.specs.Contents.{Contents}
 use Rattle.hub_script.specs.Script.{script_of}
-use Rattle.hub_script.specs.declared.script_error.ScriptError.TheVariants as script
+use Rattle.hub_script.specs.declared.error.ScriptError.TheVariants as script
 use Rattle.hub_trace.specs.Accepted.{AgentLog}
 use Rattle.hub_trace.specs.Deliveries.{AreDeliveries}
 use Rattle.hub_trace.specs.Text.{file_text}
-use Rattle.hub_trace.specs.declared.delivered_line.DeliveredLine.{DeliveredLine}
+use Rattle.hub_trace.specs.declared.delivered.DeliveredLine.{DeliveredLine}
 use Rattle.hub_engine.specs.declared.status.ExitStatus.{ExitStatus}
 use Rattle.hub_engine.specs.declared.status.ExitStatus.TheVariants as status
 use Rattle.hub_check.specs.CheckOutput.{IsVerdictLine, is_reached}

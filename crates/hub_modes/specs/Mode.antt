@@ -1,7 +1,7 @@
 -- What the words after the program's name ask for.
 use Rattle.std.specs.Prelude.{ℕ, List, [], ◌∷◌, Option, Some, None, codes, bytes_eq, if◌then◌else◌}
-use Rattle.hub_modes.specs.declared.mode.Mode.{Mode}
-use Rattle.hub_modes.specs.declared.mode.Mode.TheVariants.{Steps, Run, Check}
+use Rattle.hub_modes.specs.declared.program.Mode.{Mode}
+use Rattle.hub_modes.specs.declared.program.Mode.TheVariants.{Steps, Run, Check}
 
 -- the mode of that name
 abbrev pub mode_named : List ℕ → Option Mode

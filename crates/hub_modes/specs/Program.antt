@@ -2,9 +2,9 @@
 use Rattle.std.specs.Prelude.{◌≡◌, ℕ, List, Option, Some, None, Result, Ok}
 use Rattle.hub_engine.specs.declared.counted_reader.CountedReader.{CountedReader}
 use Rattle.hub_engine.specs.declared.counted_writer.CountedWriter.{CountedWriter}
-use Rattle.hub_engine.specs.declared.device.Device.{Device}
-use Rattle.hub_modes.specs.declared.mode.Mode.{Mode}
-use Rattle.hub_modes.specs.declared.mode.Mode.TheVariants.{Steps, Run, Check}
+use Rattle.hub_engine.specs.declared.status.Device.{Device}
+use Rattle.hub_modes.specs.declared.program.Mode.{Mode}
+use Rattle.hub_modes.specs.declared.program.Mode.TheVariants.{Steps, Run, Check}
 use Rattle.hub_engine.specs.declared.status.ExitStatus.{ExitStatus}
 use Rattle.hub_engine.specs.declared.status.ExitStatus.TheVariants.{Usage}
 use Rattle.hub_check.specs.CheckOutput.{IsCheckOutput}

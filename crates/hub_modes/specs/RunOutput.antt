@@ -3,24 +3,18 @@ use Rattle.std.specs.Prelude.{◌≡◌, ℕ, List, ◌++◌, Option, Some, None
 use Rattle.std.specs.List.{flat_map}
 use Rattle.hub_run.specs.Runs.{AreLogsFor}
 use Rattle.hub_script.specs.Contents.{Contents}
-use Rattle.hub_script.specs.Errors.{script_error_text}
+use Rattle.hub_script.specs.Errors.{script_kind_text}
 use Rattle.hub_script.specs.Script.{script_of}
-use Rattle.hub_script.specs.declared.script_error.ScriptError.{ScriptError}
-use Rattle.hub_script.specs.declared.script_error.ScriptError.TheVariants as error
+use Rattle.hub_script.specs.declared.error.ScriptError.{ScriptError}
 use Rattle.hub_trace.specs.Accepted.{AgentLog}
 use Rattle.hub_trace.specs.Deliveries.{AreDeliveries, delivered_line_text}
 use Rattle.hub_trace.specs.Text.{file_text}
-use Rattle.hub_trace.specs.declared.delivered_line.DeliveredLine.{DeliveredLine}
+use Rattle.hub_trace.specs.declared.delivered.DeliveredLine.{DeliveredLine}
 use Rattle.hub_engine.specs.declared.status.ExitStatus.{ExitStatus}
 use Rattle.hub_engine.specs.declared.status.ExitStatus.TheVariants as status
 use Rattle.hub_check.specs.CheckOutput.{IsVerdictLine}
 use Rattle.hub_engine.specs.Engine.{IsBadLine}
 use Rattle.hub_engine.specs.OutOfMemory.{out_of_memory}
-
--- the kinds of bad script lines, as they are printed. Want of memory is no kind of bad line.
-abbrev pub script_kind_text : ScriptError → Option (List ℕ)
-script_kind_text error.OutOfMemory = None
-script_kind_text bad = Some (script_error_text bad)
 
 -- a text line for each line of which something was delivered
 abbrev pub delivered_text : List DeliveredLine → List ℕ

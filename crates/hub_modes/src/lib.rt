@@ -4,11 +4,9 @@
 //! here, over `hub_run`, which has the threads.
 #![tactic(auto)]
 
-mod mode;
 mod program;
 mod run;
 
 pub use hub_run::{Checkpoint, NoCheckpoint};
-pub use mode::{Mode, mode_of};
-pub use program::{run_mode, run_words};
+pub use program::{Mode, mode_of, run_mode, run_words};
 pub use run::{run_file, run_script};

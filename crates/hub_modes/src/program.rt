@@ -1,4 +1,4 @@
-//! What the program does for its arguments.
+//! What the program is asked to do, and does, for its arguments.
 
 ghost use Rattle.std.specs.Prelude.{◌≡◌, map, string_bytes};
 ghost use Rattle.hub_engine.specs.Counted.{flushes_made, inner_reader, inner_writer};
@@ -7,7 +7,6 @@ ghost use Rattle.hub_engine.specs.Failures.{CountsFlush};
 ghost use Rattle.hub_modes.specs.Mode.{mode_asked};
 ghost use Rattle.hub_modes.specs.Program.{AnswersWords, output_of};
 
-use crate::mode::{Mode, mode_of};
 use crate::run::run_file;
 use hub_check::run_check;
 use hub_engine::{CountedReader, CountedWriter, Device, ExitStatus};
@@ -17,6 +16,29 @@ use std::alloc::Global;
 use std::io::{Read, Write};
 use std::sync::Wait;
 use std::thread::Threads;
+
+/// What the program is asked to do.
+#[derive(Clone, Copy, Debug, PartialEq, Eq)]
+pub enum Mode {
+    /// Run step lines.
+    Steps,
+    /// Run a script.
+    Run,
+    /// Check logs.
+    Check,
+}
+
+/// What the words after the program's name ask for. `None` is where the usage line is due.
+pub fn mode_of(words: &[String]) -> Option<Mode>
+    ensures { result ≡ mode_asked (map string_bytes words.now) }
+{
+    match words {
+        [word] if word.as_str() == "steps" => Some(Mode::Steps),
+        [word] if word.as_str() == "run" => Some(Mode::Run),
+        [word] if word.as_str() == "check" => Some(Mode::Check),
+        _ => None,
+    }
+}
 
 /// Runs the mode that the words after the program's name ask for. Where they ask for none, nothing
 /// is read or written, and the usage line is due.

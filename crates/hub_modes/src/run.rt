@@ -1,6 +1,6 @@
 //! The engine of `messagehub run`.
 
-ghost use Rattle.std.specs.Prelude.{◌≡◌, ◌++◌, IfOk, OnOk, option_map, string_bytes};
+ghost use Rattle.std.specs.Prelude.{◌≡◌, ◌++◌, IfOk, OnOk, string_bytes};
 ghost use Rattle.std.specs.List.{flat_map};
 ghost use Rattle.hub_trace.specs.Text.{log_text};
 ghost use Rattle.hub_engine.specs.Counted.{failed_writes, flushes_made, inner_reader, inner_writer};
@@ -11,7 +11,6 @@ ghost use Rattle.hub_modes.specs.RunOutput.{
   IsScriptOutput,
   SaysRun,
   delivered_text,
-  script_kind_text,
 };
 
 use hub_check::verdict_line;
@@ -20,9 +19,9 @@ use hub_engine::{
     end_with, read_input,
 };
 use hub_run::{Checkpoint, run_agents};
-use hub_script::{Script, ScriptError};
+use hub_script::Script;
 use hub_trace::{DeliveredLine, LOG_HEADER, LOGS_END, Log, OutOfMemory, deliveries};
-use std::alloc::{AllocError, Global};
+use std::alloc::Global;
 use std::fmt::Write as _;
 use std::io::{Read, Write};
 use std::sync::Wait;
@@ -67,7 +66,7 @@ fn run_input<C: Checkpoint + Sync, W: Write, T: Threads + Wait + Sync>(
 {
     match Script::read(alloc, input) {
         Ok(script) => run_script(alloc, rt, &script, checkpoint, writer),
-        Err((line, error)) => end_unread(alloc, writer, line, name_of(error)),
+        Err((line, error)) => end_unread(alloc, writer, line, error.kind()),
     }
 }
 
@@ -127,7 +126,7 @@ fn run_text(alloc: Global, logs: &[Log]) -> Result<(String, ExitStatus), OutOfMe
     Ok((text, status))
 }
 
-fn write_logs(text: &mut String, logs: &[Log]) -> Result<(), AllocError>
+fn write_logs(text: &mut String, logs: &[Log]) -> Result<(), OutOfMemory>
     ensures { OnOk result (string_bytes text.new
         ≡ string_bytes text.old ++ flat_map log_text logs.now) }
 {
@@ -137,7 +136,7 @@ fn write_logs(text: &mut String, logs: &[Log]) -> Result<(), AllocError>
     Ok(())
 }
 
-fn write_deliveries(text: &mut String, lines: &[DeliveredLine]) -> Result<(), AllocError>
+fn write_deliveries(text: &mut String, lines: &[DeliveredLine]) -> Result<(), OutOfMemory>
     ensures { OnOk result (string_bytes text.new
         ≡ string_bytes text.old ++ delivered_text lines.now) }
 {
@@ -145,14 +144,4 @@ fn write_deliveries(text: &mut String, lines: &[DeliveredLine]) -> Result<(), Al
         writeln!(text, "{line}")?;
     }
     Ok(())
-}
-
-/// The name by which the kind of a bad line is printed. `None` where memory ran out.
-fn name_of(error: ScriptError) -> Option<&'static str>
-    ensures { option_map (λ name. name.now) result ≡ script_kind_text error }
-{
-    match error {
-        ScriptError::OutOfMemory => None,
-        bad => Some(bad.name()),
-    }
 }

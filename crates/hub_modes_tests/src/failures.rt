@@ -2,7 +2,7 @@
 use crate::devices::{
     EndlessReader, FailingWriter, SlowReader, SlowWriter, StuckWriter, UnflushedWriter,
 };
-use crate::engines::run;
+use crate::modes::run;
 use hub_engine::{Device, ExitStatus};
 use hub_modes::Mode;
 use std::test::Fail;

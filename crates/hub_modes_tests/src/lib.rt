@@ -6,11 +6,7 @@
 #![tactic(auto)]
 
 #[cfg(test)]
-mod asking;
-#[cfg(test)]
 mod devices;
-#[cfg(test)]
-mod engines;
 #[cfg(test)]
 mod failures;
 #[cfg(test)]

@@ -5,8 +5,8 @@ use Rattle.url.specs.declared.error.ParseError.TheVariants as parse
 use Rattle.url.specs.Origin.{Triple, ascii_serialization, origin_of}
 use Rattle.url.specs.Parser.{IsOutOfRoom, parse_url}
 use Rattle.url.specs.Parts.{Parts}
-use Rattle.hub_origin.specs.declared.origin_error.OriginError.{OriginError}
-use Rattle.hub_origin.specs.declared.origin_error.OriginError.TheVariants.{BadUrl, OpaqueOrigin, OutOfMemory}
+use Rattle.hub_origin.specs.declared.origin.OriginError.{OriginError}
+use Rattle.hub_origin.specs.declared.origin.OriginError.TheVariants.{BadUrl, OpaqueOrigin, OutOfMemory}
 use Rattle.hub_origin.specs.Origin.{IsOriginAnswer, origin_answer, tuple_answer, url_answer}
 use Rattle.hub_origin.specs.Refusal.{parse_refusal}
 

@@ -3,8 +3,6 @@
 #![tactic(auto)]
 
 mod origin;
-mod origin_error;
 
 pub use hub_envelope::OutOfMemory;
-pub use origin::{Origin, origin_of};
-pub use origin_error::OriginError;
+pub use origin::{Origin, OriginError, origin_of};

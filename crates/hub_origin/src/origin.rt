@@ -1,10 +1,10 @@
 ghost use Rattle.hub_origin.specs.Origin.{IsOriginAnswer, origin_answer};
 ghost use Rattle.hub_text.specs.Reading.{IsReadAs};
 
-use crate::origin_error::OriginError;
-use hub_envelope::Text;
+use hub_envelope::{OutOfMemory, Text};
 use std::alloc::Global;
-use url::Url;
+use thiserror::Error;
+use url::{ParseError, Url};
 
 /// An origin that is not opaque, as its ASCII text (WHATWG HTML, "ASCII serialization of an
 /// origin"): the scheme, the host, and the port where it isn't the scheme's own.
@@ -31,4 +31,44 @@ pub fn origin_of(alloc: Global, text: &str) -> Result<Origin, OriginError>
         return Err(OriginError::OpaqueOrigin);
     }
     Ok(Text::of_string(origin.ascii_serialization(alloc)?))
+}
+
+/// Why a text gives no origin. `BadUrl` is tested before `OpaqueOrigin`; memory may run out at any
+/// text.
+#[derive(Clone, Copy, Debug, PartialEq, Eq, Drop, Error)]
+pub enum OriginError {
+    /// The text is no absolute URL (URL Standard, "URL parsing").
+    #[error("bad url")]
+    BadUrl,
+    /// The URL's origin is the same as no other (URL Standard, "Origin").
+    #[error("opaque origin")]
+    OpaqueOrigin,
+    /// An allocation failed, or the URL would be 4 GiB long or longer.
+    #[error("out of memory")]
+    OutOfMemory,
+}
+
+impl From<OutOfMemory> for OriginError {
+    ghost use Rattle.std.specs.Prelude.{◌≡◌};
+    ghost use Rattle.hub_origin.specs.declared.origin.OriginError.TheVariants.{OutOfMemory};
+
+    ghost from_gives = { λ _ e. e ≡ OutOfMemory };
+
+    fn from(_error: OutOfMemory) -> OriginError {
+        OriginError::OutOfMemory
+    }
+}
+
+impl From<ParseError> for OriginError {
+    ghost use Rattle.std.specs.Prelude.{◌≡◌};
+    ghost use Rattle.hub_origin.specs.Refusal.{parse_refusal};
+
+    ghost from_gives = { λ error e. e ≡ parse_refusal error };
+
+    fn from(error: ParseError) -> OriginError {
+        match error {
+            ParseError::OutOfMemory | ParseError::Overflow => OriginError::OutOfMemory,
+            _ => OriginError::BadUrl,
+        }
+    }
 }

@@ -1,8 +1,7 @@
 //! The lines beyond the step lines, which are known where turns are made.
 
-use crate::holding::{hold, loop_of, release};
-use crate::player::Player;
-use crate::stop::Stop;
+use crate::agent::{hold, loop_of, release};
+use crate::player::{Player, Stop};
 use crate::told::Told;
 use hub_core::Outcome;
 use hub_depot::Key;

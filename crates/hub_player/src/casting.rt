@@ -1,9 +1,8 @@
 //! Casts, and members that leave the roster.
 
-use crate::holding::loop_of;
-use crate::player::{Player, answer, not_now};
+use crate::agent::loop_of;
+use crate::player::{Player, Stop, answer, not_now};
 use crate::seat::{Kind, Place};
-use crate::stop::Stop;
 use hub_broadcast::{CastError, CastOutcome};
 use hub_core::{Acceptance, Outcome};
 use hub_envelope::{AgentId, Body, EndId, Items};

@@ -1,9 +1,8 @@
 //! Closing.
 
-use crate::holding::{loop_of, release};
-use crate::player::{Player, answer, not_now};
+use crate::agent::{loop_of, release};
+use crate::player::{Player, Stop, answer, not_now};
 use crate::seat::{Kind, Place};
-use crate::stop::Stop;
 use hub_clients::Handed;
 use hub_core::Outcome;
 use hub_envelope::{AgentId, EndId};

@@ -1,7 +1,6 @@
 //! Orders to end, and events of lives.
 
-use crate::player::{Player, answer, not_now};
-use crate::stop::Stop;
+use crate::player::{Player, Stop, answer, not_now};
 use hub_core::Outcome;
 use hub_envelope::{AgentId, EndId, Items};
 use hub_life::Event;

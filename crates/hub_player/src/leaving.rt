@@ -2,9 +2,8 @@
 
 use crate::closing::shown_of;
 use crate::lines::Lent;
-use crate::player::Player;
+use crate::player::{Player, Stop};
 use crate::seat::{Place, Seat};
-use crate::stop::Stop;
 use crate::told::Told;
 use hub_core::Outcome;
 use hub_envelope::{AgentId, EndId, Items};

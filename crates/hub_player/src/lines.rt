@@ -1,9 +1,7 @@
 //! Lines of the queues of clients and workers, which the directory lends.
 
-use crate::agent::Agent;
-use crate::holding::hold;
-use crate::player::{Player, answer, not_now};
-use crate::stop::Stop;
+use crate::agent::{Agent, hold};
+use crate::player::{Player, Stop, answer, not_now};
 use hub_clients::DirectoryError;
 use hub_core::Outcome;
 use hub_envelope::{AgentId, EndId, LineId};

@@ -1,10 +1,8 @@
 //! Agents and new ends.
 
-use crate::agent::Agent;
-use crate::holding::hold;
-use crate::player::{Player, answer, not_now};
+use crate::agent::{Agent, hold};
+use crate::player::{Player, Stop, answer, not_now};
 use crate::seat::{Kind, Place, Seat};
-use crate::stop::Stop;
 use hub_broadcast::{JoinError, Origin};
 use hub_clients::QueueError;
 use hub_core::Outcome;

@@ -1,9 +1,8 @@
 //! Ends that go from one agent to another.
 
-use crate::holding::{hold, loop_of, release};
-use crate::player::{Player, Standing, answer, not_now};
+use crate::agent::{hold, loop_of, release};
+use crate::player::{Player, Standing, Stop, answer, not_now};
 use crate::seat::{Kind, Place};
-use crate::stop::Stop;
 use hub_clients::{Directory, HandError};
 use hub_core::Outcome;
 use hub_envelope::{AgentId, EndId};

@@ -1,16 +1,56 @@
 use crate::agent::Agent;
 use crate::lines::Lent;
 use crate::seat::{Kind, Place, Seat};
-use crate::stop::Stop;
 use hub_broadcast::SharedRoster;
 use hub_clients::Directory;
 use hub_core::{Action, Outcome};
 use hub_envelope::{AgentId, EndId};
 use hub_ports::Hub;
 use hub_queue::Ends;
-use hub_steps::{Command, Poster, PosterCommand, Shown, StepLine};
+use hub_steps::{Command, PosterCommand, PosterName, Shown, StepLine, StepLineError};
 use std::alloc::Global;
 use std::sync::Wait;
+
+/// Why a text line was not played.
+#[derive(Clone, Copy)]
+pub(crate) enum Stop {
+    /// It is no step line.
+    Bad(StepLineError),
+    /// There was no memory.
+    OutOfMemory,
+    /// Memory is to be refused, and no call refuses it.
+    RefusedMemory,
+    /// A part of a post, where a call makes a whole one; or a look at a queue, which is a part of a
+    /// take and of a sweep.
+    Part,
+    /// The start of a queue that has no such call, since it is enabled from the first.
+    Start,
+    /// The sweep of a port that a doomed post has closed and kept nothing of.
+    Doomed,
+    /// A line that a loop holds is given back, which it does when it ends.
+    Line,
+    /// A list of more ports than a message takes, of which some are not at hand.
+    List,
+    /// A call has answered what no step line shows.
+    Unexpected,
+}
+
+impl Stop {
+    /// The reason, as a text.
+    pub(crate) fn reason(self) -> &'static str {
+        match self {
+            Stop::Bad(_) => "no step line",
+            Stop::OutOfMemory => "out of memory",
+            Stop::RefusedMemory => "no call refuses memory",
+            Stop::Part => "no call makes a part of a post or of a sweep",
+            Stop::Start => "no call starts a queue that is enabled from the first",
+            Stop::Doomed => "nothing is kept of a port that a doomed post has closed",
+            Stop::Line => "a loop gives its lines back when it ends",
+            Stop::List => "no call lists so many ports that are not at hand",
+            Stop::Unexpected => "a call has answered what no step line shows",
+        }
+    }
+}
 
 /// Where an end stands for whoever takes from it.
 #[derive(Clone, Copy, PartialEq, Eq)]
@@ -121,17 +161,17 @@ impl Player {
     fn at<R: Wait>(
         &mut self,
         rt: &R,
-        poster: Poster,
+        poster: PosterName,
         command: PosterCommand,
     ) -> Result<Shown, Stop> {
         match command {
             PosterCommand::Post(ports, body) => match poster {
-                Poster::Port(port) => self.post_from_port(rt, port, ports, body),
-                Poster::Line(end, line) => self.post_on_line(rt, end, line, ports, body),
+                PosterName::Port(port) => self.post_from_port(rt, port, ports, body),
+                PosterName::Line(end, line) => self.post_on_line(rt, end, line, ports, body),
             },
             PosterCommand::Back => match poster {
-                Poster::Port(_) => not_now(),
-                Poster::Line(end, line) => self.give_back(rt, end, line),
+                PosterName::Port(_) => not_now(),
+                PosterName::Line(end, line) => self.give_back(rt, end, line),
             },
             _ => Err(Stop::Part),
         }

@@ -1,13 +1,12 @@
 //! Posts, with the ports that are sent along.
 
-use crate::holding::{hold, loop_of};
+use crate::agent::{hold, loop_of};
 use crate::lines::Lent;
-use crate::player::{Player, Standing, answer, not_now};
+use crate::player::{Player, Standing, Stop, answer, not_now};
 use crate::seat::{Kind, Place};
-use crate::stop::Stop;
 use hub_core::{Acceptance, Outcome};
 use hub_envelope::{AgentId, Body, EndId, Items, LineId, MAX_PORTS};
-use hub_loop::Held;
+use hub_loop::{Held, Way};
 use hub_ports::{Closings, Port, PortError, send};
 use hub_queue::Posted;
 use hub_steps::Shown;
@@ -113,7 +112,7 @@ impl Player {
         let Some(event_loop) = loop_of(&mut self.agents, agent) else {
             return Err(Stop::Unexpected);
         };
-        match event_loop.post(rt, &self.hub, agent, port, body, transfer) {
+        match event_loop.post(rt, &self.hub, agent, Way::Port(port), body, transfer) {
             Ok(posted) => self.told(agent, ports.as_slice(), posted),
             Err(_) => Err(Stop::Unexpected),
         }
@@ -151,7 +150,7 @@ impl Player {
         let Some(event_loop) = loop_of(&mut self.agents, agent) else {
             return Err(Stop::Unexpected);
         };
-        match event_loop.send(rt, &self.hub, agent, end, body, transfer) {
+        match event_loop.post(rt, &self.hub, agent, Way::Line(end), body, transfer) {
             Ok(posted) => self.told(agent, list, posted),
             Err(_) => Err(Stop::Unexpected),
         }

@@ -1,8 +1,7 @@
 //! How a whole input is read and played.
 
 use crate::asking::asked_in;
-use crate::player::Player;
-use crate::stop::Stop;
+use crate::player::{Player, Stop};
 use crate::told::Told;
 use hub_engine::{
     CountedReader, CountedWriter, Device, ExitStatus, InputError, end_out_of_memory, end_unread,

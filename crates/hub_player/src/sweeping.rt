@@ -1,8 +1,7 @@
 //! Sweeps, and the closing of the ports that were named by what was discarded.
 
-use crate::player::{Player, answer, not_now};
+use crate::player::{Player, Stop, answer, not_now};
 use crate::seat::{Place, Seat};
-use crate::stop::Stop;
 use hub_core::Outcome;
 use hub_envelope::{EndId, Envelope, Items};
 use hub_queue::{Grave, Sweep};

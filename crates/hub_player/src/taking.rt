@@ -1,9 +1,8 @@
 //! Starts and takes.
 
-use crate::holding::{hold_in, loop_of};
-use crate::player::{Player, Standing, answer, not_now};
+use crate::agent::{hold_in, loop_of};
+use crate::player::{Player, Standing, Stop, answer, not_now};
 use crate::seat::Kind;
-use crate::stop::Stop;
 use hub_core::Outcome;
 use hub_envelope::{AgentId, EndId, Envelope};
 use hub_loop::Held;

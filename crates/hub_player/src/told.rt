@@ -1,6 +1,6 @@
 //! What is printed of the lines that were played.
 
-use crate::stop::Stop;
+use crate::player::Stop;
 use hub_steps::{Shown, write_shown};
 use std::alloc::Global;
 
@@ -46,7 +46,7 @@ impl Told {
         }
     }
 
-    // Where there is no memory it asks once more, since a turn was made.
+    /// Where there is no memory it asks once more, since a turn was made.
     fn tell_text(&mut self, text: &[u8]) -> Result<(), Stop> {
         if self.lines.extend_from_slice(text).is_ok()
             || self.lines.extend_from_slice(text).is_ok()

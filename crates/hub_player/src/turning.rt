@@ -1,9 +1,8 @@
 //! Turns of the loops, told as the step lines that do the same.
 
-use crate::holding::loop_of;
-use crate::player::Player;
+use crate::agent::loop_of;
+use crate::player::{Player, Stop};
 use crate::seat::Place;
-use crate::stop::Stop;
 use crate::told::Told;
 use hub_core::Outcome;
 use hub_envelope::{AgentId, EndId};

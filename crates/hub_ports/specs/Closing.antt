@@ -52,12 +52,12 @@ abbrev pub Emptied : Type 0
 Emptied = SweptSeat × Option (StandSeat × Noticed)
 
 -- the end of a port, closed and not yet swept
-abbrev pub closed_end : TakerSeat → GraveSeat
-closed_end t = record { end = t.end; epoch = t.epoch; queues = t.retired ++ closed_queue t.newest ∷ []; envelopes = [] }
+abbrev pub grave_left : TakerSeat → GraveSeat
+grave_left t = record { end = t.end; epoch = t.epoch; queues = t.retired ++ closed_queue t.newest ∷ []; envelopes = [] }
 
 -- the port was closed, with its notice, and its end emptied
 abbrev pub IsEmptiedAs : PortSeat → Emptied → Type 0
-IsEmptiedAs p e = (line : StandSeat) × (noticed : Noticed) × (e.1 ≡ Some (line, noticed)) × IsNoticed p.poster line noticed × IsSweptOut (closed_end p.taker) e.0
+IsEmptiedAs p e = (line : StandSeat) × (noticed : Noticed) × (e.1 ≡ Some (line, noticed)) × IsNoticed p.poster line noticed × IsSweptOut (grave_left p.taker) e.0
 
 -- so many ports were taken out of the flight, one after another, and each was emptied so
 abbrev pub EmptiesTo : Flight → Flight → List Emptied → Type 0

@@ -19,8 +19,8 @@ abbrev pub ends_of : List PortSeat → List EndId
 ends_of ports = map end_of ports
 
 -- the port has this number
-abbrev pub has_end : EndId → PortSeat → Bool
-has_end end p = p.taker.end == end.0
+abbrev pub is_numbered : EndId → PortSeat → Bool
+is_numbered end p = p.taker.end == end.0
 
 -- the name of the port of this number: epoch 0 and line 0
 abbrev pub place_of : EndId → Key

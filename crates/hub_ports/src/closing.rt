@@ -100,7 +100,7 @@ impl Model for Closings {
     ghost invariant = { λ c. c.count ≤ MAX_PORTS };
 }
 
-// No port: it holds the place of one.
+/// No port: it holds the place of one.
 fn vacant() -> Closing {
     Closing {
         end: EndId(0),
@@ -141,7 +141,7 @@ impl Closings {
     }
 }
 
-// Posts the notice over the line of a port.
+/// Posts the notice over the line of a port.
 fn post_notice<R: Wait>(rt: &R, alloc: Global, yard: &Depot<Onward>, poster: &mut Poster) -> Noticed
     ensures { IsNoticed poster.old poster.new result }
 {
@@ -156,7 +156,7 @@ fn post_notice<R: Wait>(rt: &R, alloc: Global, yard: &Depot<Onward>, poster: &mu
     }
 }
 
-// Posts the notice, and tells of it.
+/// Posts the notice, and tells of it.
 fn put_notice<H: Hears<ClosingStep>, R: Wait>(
     rt: &R,
     alloc: Global,
@@ -173,7 +173,7 @@ fn put_notice<H: Hears<ClosingStep>, R: Wait>(
     noticed
 }
 
-// Closes the own end of a port, and tells of it.
+/// Closes the own end of a port, and tells of it.
 fn shut<H: Hears<ClosingStep>, R: Wait>(rt: &R, taker: Taker, heard: &mut H) -> Grave
     ensures grave { IsClosed taker result }
     ensures told { H.told heard.new ≡ option_map (λ list.

@@ -94,10 +94,10 @@ pub(crate) fn call_back<L: Lends<Kept<Port>>, R: Wait>(
 }
 
 /// Closes all ports in flight, each with its notice, and empties their ends, the closed end of an
-/// earlier call before them. The envelopes that are discarded there name ports by number; those of
-/// them that are in flight are met there. It tells of each end what is left of it.
+/// earlier call before them. Ports named by the envelopes discarded there are closed too, where
+/// they are in flight. It tells of each end what is left of it.
 ///
-/// After an error, which is want of memory, the end that was closed last comes back.
+/// Where memory runs out, the end that was closed last comes back.
 pub fn close_flight<H: Hears<(Swept, Option<(Spent, Noticed)>)>, R: Wait>(
     rt: &R,
     alloc: Global,

@@ -13,7 +13,7 @@ use hub_depot::Depot;
 use hub_envelope::{EndId, Envelope, OutOfMemory};
 use hub_locked::Unheard;
 use hub_queue::{Bell, Ends, Grave, Mailbox, Onward, Poster, Taker};
-use std::alloc::{AllocError, Global};
+use std::alloc::Global;
 use std::sync::{Mutex, Wait};
 
 /// What the agents of a hub share: the ports that were sent and not yet received, and the onward
@@ -90,11 +90,11 @@ impl Hub {
             alloc,
             grave: Mutex::new(Some(grave)),
         };
-        Err((AllocError, hub))
+        Err((OutOfMemory, hub))
     }
 }
 
-// A mailbox with one line.
+/// A mailbox with one line.
 fn open_line(alloc: Global, end: EndId, bell: Bell) -> Result<(Taker, Poster), OutOfMemory>
     ensures { IfOk result (λ m. IsOpenMailbox end 1 m.0 (m.1 ∷ [])) }
 {
@@ -103,7 +103,7 @@ fn open_line(alloc: Global, end: EndId, bell: Bell) -> Result<(Taker, Poster), O
     Ok((taker, poster))
 }
 
-// Two ports of these numbers, each with the poster of the other's mailbox.
+/// Two ports of these numbers, each with the poster of the other's mailbox.
 fn entangled(
     alloc: Global,
     first: EndId,

@@ -4,7 +4,7 @@ ghost use Rattle.std.specs.List.{list_any};
 ghost use Rattle.hub_envelope.specs.declared.limits.TheConstants.{MAX_PORTS};
 ghost use Rattle.hub_ports.specs.Flying.{IsFlown};
 ghost use Rattle.hub_ports.specs.Refusing.{refusal_of, whole_error};
-ghost use Rattle.hub_ports.specs.Seats.{ends_of, has_end};
+ghost use Rattle.hub_ports.specs.Seats.{ends_of, is_numbered};
 ghost use Rattle.hub_ports.specs.Sending.{IsSent, IsDoomed, IsTooMany};
 
 use crate::closing::close_all;
@@ -19,14 +19,14 @@ use hub_queue::{PostError, Posted, Poster};
 use std::alloc::Global;
 use std::sync::Wait;
 
-// Whether a port of the list has this number.
+/// Whether a port of the list has this number.
 fn holds(ports: &[Port], end: EndId) -> bool
-    ensures { result ≡ list_any (has_end end) ports.now }
+    ensures { result ≡ list_any (is_numbered end) ports.now }
 {
     ports.iter().any(|port| port.end() == end)
 }
 
-// The numbers of the ports, in order.
+/// The numbers of the ports, in order.
 fn numbers_of(alloc: Global, ports: &[Port]) -> Result<Vec<EndId>, OutOfMemory>
     ensures { IfOk result (λ numbers. numbers.items ≡ ends_of ports.now) }
 {
@@ -37,7 +37,7 @@ fn numbers_of(alloc: Global, ports: &[Port]) -> Result<Vec<EndId>, OutOfMemory>
     Ok(numbers)
 }
 
-// The error of a message that was refused, where all its ports are in hand.
+/// The error of a message that was refused, where all its ports are in hand.
 fn refused_whole(refusal: SendRefusal, body: Body, ports: Vec<Port>) -> PortError
     ensures { result ≡ whole_error refusal body ports }
 {
@@ -49,7 +49,7 @@ fn refused_whole(refusal: SendRefusal, body: Body, ports: Vec<Port>) -> PortErro
     }
 }
 
-// The error of a message that was refused, once its ports were called back.
+/// The error of a message that was refused, once its ports were called back.
 fn refused(refusal: SendRefusal, missing: Vec<EndId>, body: Body, ports: Vec<Port>) -> PortError
     ensures whole { missing.items ≡ [] → result ≡ whole_error refusal body ports }
     ensures strayed { 0 < length missing.items → result ≡ PortError.Strayed missing body ports }
@@ -61,8 +61,8 @@ fn refused(refusal: SendRefusal, missing: Vec<EndId>, body: Body, ports: Vec<Por
     }
 }
 
-// The answer to a message without ports that its line refused. It is no part of `send`, as
-// `send_with_ports` isn't.
+/// The answer to a message without ports that its line refused. It is no part of `send`, as
+/// `send_with_ports` isn't.
 #[cold]
 #[inline(never)]
 fn turned_back(error: PostError, draft: Draft, none: Vec<Port>) -> Result<Posted, PortError>
@@ -72,8 +72,8 @@ fn turned_back(error: PostError, draft: Draft, none: Vec<Port>) -> Result<Posted
     Err(refused_whole(SendRefusal::of_line(error), body, none))
 }
 
-// Posts a body with at most so many ports as an envelope may have, over a flight that anybody
-// lends. What giving them back wants is reserved before the first is in flight.
+/// Posts a body with at most so many ports as an envelope may have, over a flight that anybody
+/// lends. What giving them back wants is reserved before the first is in flight.
 fn post_with_ports<L: Lends<Kept<Port>>, R: Wait>(
     rt: &R,
     hub: &Hub,

@@ -2,14 +2,14 @@
 use Rattle.std.specs.Prelude.{◌≡◌, ℕ, Bool, false}
 use Rattle.hub_ports_c.specs.Held.{Both, BothNew, Held, JoinsIn, New, OpensLineIn}
 use Rattle.hub_ports_c.specs.declared.handle.Handle.{Handle}
-use Rattle.hub_ports_c.specs.declared.kept.Kept.{Kept}
+use Rattle.hub_ports_c.specs.declared.resource.Resource.{Resource}
 
 -- something was held, and something is, and this holds of the two
-abbrev pub At : (Kept → Kept → Type 0) → Handle → Handle → Type 0
+abbrev pub At : (Resource → Resource → Type 0) → Handle → Handle → Type 0
 At P old new = Both P old.slot.held new.slot.held
 
 -- nothing was held, and something is, of which this holds
-abbrev pub OpensAs : (Kept → Type 0) → Handle → Handle → Type 0
+abbrev pub OpensAs : (Resource → Type 0) → Handle → Handle → Type 0
 OpensAs P old new = New P old.slot.held new.slot.held
 
 -- what is held is what was held
@@ -21,7 +21,7 @@ abbrev pub HeldNo : (Held → Bool) → Handle → Handle → Type 0
 HeldNo is_such old new = (is_such old.slot.held ≡ false) × SameHeld old new
 
 -- the two ports of a channel are held, where nothing was
-abbrev pub BothOpenAs : (Kept → Kept → Type 0) → Handle → Handle → Handle → Handle → Type 0
+abbrev pub BothOpenAs : (Resource → Resource → Type 0) → Handle → Handle → Handle → Handle → Type 0
 BothOpenAs P left right left_new right_new = BothNew P left.slot.held right.slot.held left_new.slot.held right_new.slot.held
 
 -- a line was opened at a fan that is held, and its poster is held, where nothing was

@@ -1,5 +1,5 @@
-pub mod Kept
-pub mod KeptFans
-pub mod KeptGroups
+pub mod Resources
+pub mod FanResources
+pub mod GroupResources
 pub mod Held
 pub mod Handles

@@ -1,16 +1,15 @@
 //! The calls for a fan.
 ghost use Rattle.std.specs.Prelude.{◌≡◌, ◌⊎◌, None, false, true};
 ghost use Rattle.hub_fan.specs.declared.closing.FanDrained.TheVariants as drained;
-ghost use Rattle.hub_fan.specs.declared.taken.FanTaken.TheVariants as taken;
+ghost use Rattle.hub_fan.specs.declared.fan.FanTaken.TheVariants as taken;
 ghost use Rattle.hub_ports_c.specs.Handles.{At, HeldNo, OpensAs, OpensLineAt, SameHeld};
 ghost use Rattle.hub_ports_c.specs.Held.{is_fan_grave_in, is_fan_in};
-ghost use Rattle.hub_ports_c.specs.KeptFans.{AtFan, AtFanGrave, ClosesFan, DrainsOf, FindsALine};
-ghost use Rattle.hub_ports_c.specs.KeptFans.{FindsNoLine, IsDisabled, IsFull, IsNewFan, KeepsAll};
-ghost use Rattle.hub_ports_c.specs.KeptFans.{SameFan, Starts, TakesOf};
+ghost use Rattle.hub_ports_c.specs.FanResources.{AtFan, AtFanGrave, ClosesFan, DrainsOf, FindsALine};
+ghost use Rattle.hub_ports_c.specs.FanResources.{FindsNoLine, IsDisabled, IsFull, IsNewFan, KeepsAll};
+ghost use Rattle.hub_ports_c.specs.FanResources.{SameFan, Starts, TakesOf};
 
 use crate::handle::Handle;
-use crate::kept::Kept;
-use crate::message::Message;
+use crate::resource::{Message, Resource};
 use crate::status::{DONE, NO_MEMORY, WRONG_STATE};
 use hub_fan::Fan;
 use std::alloc::Global;
@@ -29,10 +28,10 @@ pub extern "C" fn varukoni_fan_open(alloc: Global, handle: &mut Handle) -> u8
     let Ok(fan) = Fan::open(alloc) else {
         return NO_MEMORY;
     };
-    let Ok(kept) = Box::new(alloc, Kept::Fan(fan)) else {
+    let Ok(resource) = Box::new(alloc, Resource::Fan(fan)) else {
         return NO_MEMORY;
     };
-    *handle = Handle::open(kept);
+    *handle = Handle::open(resource);
     DONE
 }
 
@@ -57,12 +56,12 @@ pub extern "C" fn varukoni_fan_line(
     if !handle.is_open || poster.is_open {
         return WRONG_STATE;
     }
-    let Ok(mut opened) = Box::new(alloc, Kept::Gone) else {
+    let Ok(mut opened) = Box::new(alloc, Resource::Gone) else {
         return NO_MEMORY;
     };
-    let mut kept = handle.take(alloc);
-    let status = kept.open_line(&mut opened, line);
-    *handle = Handle::open(kept);
+    let mut resource = handle.take(alloc);
+    let status = resource.open_line(&mut opened, line);
+    *handle = Handle::open(resource);
     if status == DONE {
         *poster = Handle::open(opened);
     }
@@ -79,9 +78,9 @@ pub extern "C" fn varukoni_fan_start(alloc: Global, handle: &mut Handle) -> u8
     if !handle.is_open {
         return WRONG_STATE;
     }
-    let mut kept = handle.take(alloc);
-    let status = kept.start_fan();
-    *handle = Handle::open(kept);
+    let mut resource = handle.take(alloc);
+    let status = resource.start_fan();
+    *handle = Handle::open(resource);
     status
 }
 
@@ -107,9 +106,9 @@ pub extern "C" fn varukoni_fan_take(
     if !handle.is_open {
         return WRONG_STATE;
     }
-    let mut kept = handle.take(alloc);
-    let status = kept.take_of(message, line);
-    *handle = Handle::open(kept);
+    let mut resource = handle.take(alloc);
+    let status = resource.take_of(message, line);
+    *handle = Handle::open(resource);
     status
 }
 
@@ -130,9 +129,9 @@ pub extern "C" fn varukoni_fan_arm(
     if !handle.is_open {
         return WRONG_STATE;
     }
-    let mut kept = handle.take(alloc);
-    let status = kept.arm_fan(token, old);
-    *handle = Handle::open(kept);
+    let mut resource = handle.take(alloc);
+    let status = resource.arm_fan(token, old);
+    *handle = Handle::open(resource);
     status
 }
 
@@ -146,9 +145,9 @@ pub extern "C" fn varukoni_fan_close(alloc: Global, handle: &mut Handle, own: &m
     if !handle.is_open {
         return WRONG_STATE;
     }
-    let mut kept = handle.take(alloc);
-    let status = kept.close_fan(own);
-    *handle = Handle::open(kept);
+    let mut resource = handle.take(alloc);
+    let status = resource.close_fan(own);
+    *handle = Handle::open(resource);
     status
 }
 
@@ -171,9 +170,9 @@ pub extern "C" fn varukoni_fan_drain(
     if !handle.is_open {
         return WRONG_STATE;
     }
-    let mut kept = handle.take(alloc);
-    let status = kept.drain_fan(message, line);
-    *handle = Handle::open(kept);
+    let mut resource = handle.take(alloc);
+    let status = resource.drain_fan(message, line);
+    *handle = Handle::open(resource);
     status
 }
 

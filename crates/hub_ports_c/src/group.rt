@@ -2,12 +2,11 @@
 ghost use Rattle.std.specs.Prelude.{◌≡◌, ◌⊎◌, None, false, length, true};
 ghost use Rattle.hub_ports_c.specs.Handles.{At, HeldNo, JoinsAt, OpensAs, SameHeld};
 ghost use Rattle.hub_ports_c.specs.Held.{CountsIn, is_group_in, is_poster_in};
-ghost use Rattle.hub_ports_c.specs.KeptGroups.{AtGroup, CastsAll, HasNoMember, IsCrowded};
-ghost use Rattle.hub_ports_c.specs.KeptGroups.{IsNewGroup, LeavesGroup, SameGroup};
+ghost use Rattle.hub_ports_c.specs.GroupResources.{AtGroup, CastsAll, HasNoMember, IsCrowded};
+ghost use Rattle.hub_ports_c.specs.GroupResources.{IsNewGroup, LeavesGroup, SameGroup};
 
 use crate::handle::Handle;
-use crate::kept::Kept;
-use crate::message::Message;
+use crate::resource::{Message, Resource};
 use crate::status::{DONE, NO_MEMORY, WRONG_STATE};
 use hub_group::{CastAnswer, CastGroup};
 use std::alloc::Global;
@@ -23,10 +22,10 @@ pub extern "C" fn varukoni_group_open(alloc: Global, handle: &mut Handle) -> u8
     if handle.is_open {
         return WRONG_STATE;
     }
-    let Ok(kept) = Box::new(alloc, Kept::Group(CastGroup::new(alloc))) else {
+    let Ok(resource) = Box::new(alloc, Resource::Group(CastGroup::new(alloc))) else {
         return NO_MEMORY;
     };
-    *handle = Handle::open(kept);
+    *handle = Handle::open(resource);
     DONE
 }
 
@@ -50,10 +49,10 @@ pub extern "C" fn varukoni_group_join(
     if !handle.is_open || !poster.is_open {
         return WRONG_STATE;
     }
-    let mut kept = handle.take(alloc);
+    let mut resource = handle.take(alloc);
     let mut joining = poster.take(alloc);
-    let status = kept.join(&mut joining, member);
-    *handle = Handle::open(kept);
+    let status = resource.join(&mut joining, member);
+    *handle = Handle::open(resource);
     if status != DONE {
         *poster = Handle::open(joining);
     }
@@ -72,9 +71,9 @@ pub extern "C" fn varukoni_group_count(alloc: Global, handle: &mut Handle, count
     if !handle.is_open {
         return WRONG_STATE;
     }
-    let kept = handle.take(alloc);
-    let status = kept.count(count);
-    *handle = Handle::open(kept);
+    let resource = handle.take(alloc);
+    let status = resource.count(count);
+    *handle = Handle::open(resource);
     status
 }
 
@@ -98,9 +97,9 @@ pub extern "C" fn varukoni_group_cast(
     if !handle.is_open {
         return WRONG_STATE;
     }
-    let mut kept = handle.take(alloc);
-    let status = kept.cast(source, message, answers);
-    *handle = Handle::open(kept);
+    let mut resource = handle.take(alloc);
+    let status = resource.cast(source, message, answers);
+    *handle = Handle::open(resource);
     status
 }
 
@@ -121,9 +120,9 @@ pub extern "C" fn varukoni_group_leave(
     if !handle.is_open {
         return WRONG_STATE;
     }
-    let mut kept = handle.take(alloc);
-    let status = kept.leave(member, wake);
-    *handle = Handle::open(kept);
+    let mut resource = handle.take(alloc);
+    let status = resource.leave(member, wake);
+    *handle = Handle::open(resource);
     status
 }
 

@@ -1,10 +1,9 @@
 //! The handle by which a C program holds a port.
 ghost use Rattle.std.specs.Prelude.{◌≡◌, Some, None, true, false};
-ghost use Rattle.hub_ports_c.specs.Held.{is_held};
+ghost use Rattle.hub_ports_c.specs.Held.{is_filled};
 
-use crate::kept::Kept;
-use crate::parts::Parts;
-use crate::slot::Slot;
+use crate::resource::Resource;
+use crate::slot::{RawBox, Slot};
 use std::alloc::Global;
 use std::mem;
 
@@ -13,7 +12,7 @@ use std::mem;
 pub struct Handle {
     pub(crate) slot: Slot,
     pub(crate) is_open: bool,
-    ghost tells: { is_open ≡ is_held slot.held },
+    ghost tells: { is_open ≡ is_filled slot.held },
 }
 
 impl Drop for Handle {
@@ -37,25 +36,25 @@ impl Handle {
         }
     }
 
-    pub(crate) fn open(kept: Box<Kept>) -> Handle
-        ensures { result.slot.held ≡ Some kept.value }
+    pub(crate) fn open(resource: Box<Resource>) -> Handle
+        ensures { result.slot.held ≡ Some resource.value }
     {
         Handle {
-            slot: Slot::of(Parts::of(kept)),
+            slot: Slot::of(RawBox::of(resource)),
             is_open: true,
         }
     }
 
     /// Takes what an open handle holds out of it, which is closed then.
-    pub(crate) fn take(&mut self, alloc: Global) -> Box<Kept>
+    pub(crate) fn take(&mut self, alloc: Global) -> Box<Resource>
         requires { self.old.is_open ≡ true }
         ensures { (Some result.value ≡ self.old.slot.held) × (self.new.slot.held ≡ None) }
     {
-        mem::replace(self, Handle::closed(alloc)).into_kept()
+        mem::replace(self, Handle::closed(alloc)).into_resource()
     }
 
-    // What an open handle holds.
-    fn into_kept(self) -> Box<Kept>
+    /// What an open handle holds.
+    fn into_resource(self) -> Box<Resource>
         requires { self.is_open ≡ true }
         ensures { Some result.value ≡ self.slot.held }
     {

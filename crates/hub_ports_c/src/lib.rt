@@ -6,15 +6,12 @@
 mod fan;
 mod group;
 mod handle;
-mod kept;
-mod kept_fan;
-mod kept_group;
-mod message;
-mod parts;
 mod port;
 mod poster;
-mod sending;
+mod resource;
+mod resource_fan;
+mod resource_group;
 mod slot;
 mod status;
 
-pub use sending::sent_kept;
+pub use resource::sent_resource;

@@ -1,15 +1,14 @@
 //! The calls for a port.
 ghost use Rattle.std.specs.Prelude.{◌≡◌, ◌⊎◌, None, false, true};
 ghost use Rattle.hub_ports_c.specs.Handles.{At, BothOpenAs, HeldNo, SameHeld};
-ghost use Rattle.hub_ports_c.specs.Held.{IsNamed, is_grave_in, is_port_in};
-ghost use Rattle.hub_ports_c.specs.Kept.{AtPort, AtGrave, Becomes, Closes, FindsNone, FindsSome};
-ghost use Rattle.hub_ports_c.specs.Kept.{HandsBack, HandsBackLast, HandsBackNone};
-ghost use Rattle.hub_ports_c.specs.Kept.{NewPeers, Posts, PostsNothing, RefusesClosed, Takes};
-ghost use Rattle.hub_ports_c.specs.Kept.{TakesLast, TakesNone, Waits};
+ghost use Rattle.hub_ports_c.specs.Held.{NamesChannel, is_grave_in, is_port_in};
+ghost use Rattle.hub_ports_c.specs.Resources.{AtPort, AtGrave, Becomes, ClosesPort, FindsNone, FindsSome};
+ghost use Rattle.hub_ports_c.specs.Resources.{HandsBack, HandsBackLast, HandsBackNone};
+ghost use Rattle.hub_ports_c.specs.Resources.{NewPeers, PostsMessage, PostsNothing, RefusesClosed, TakesMessage};
+ghost use Rattle.hub_ports_c.specs.Resources.{TakesLast, TakesNone, Waits};
 
 use crate::handle::Handle;
-use crate::kept::Kept;
-use crate::message::Message;
+use crate::resource::{Message, Resource};
 use crate::status::{DONE, NO_MEMORY, WRONG_STATE};
 use hub_channel::open_channel;
 use std::alloc::Global;
@@ -33,10 +32,10 @@ pub extern "C" fn varukoni_channel_open(
     let Ok((one, other)) = open_channel(alloc, name) else {
         return NO_MEMORY;
     };
-    let Ok(one) = Box::new(alloc, Kept::Port(one)) else {
+    let Ok(one) = Box::new(alloc, Resource::Port(one)) else {
         return NO_MEMORY;
     };
-    let Ok(other) = Box::new(alloc, Kept::Port(other)) else {
+    let Ok(other) = Box::new(alloc, Resource::Port(other)) else {
         return NO_MEMORY;
     };
     *left = Handle::open(one);
@@ -52,7 +51,7 @@ pub extern "C" fn varukoni_port_post(
     message: &Message,
     wake: &mut u64,
 ) -> u8
-    ensures posted { result ≡ 0 → At (AtPort (Posts message.now)) handle.old handle.new }
+    ensures posted { result ≡ 0 → At (AtPort (PostsMessage message.now)) handle.old handle.new }
     ensures no_memory { result ≡ 3 → At (AtPort PostsNothing) handle.old handle.new }
     ensures closed { result ≡ 6 → At (AtPort RefusesClosed) handle.old handle.new }
     ensures other { result ≡ 5 → HeldNo is_port_in handle.old handle.new }
@@ -62,9 +61,9 @@ pub extern "C" fn varukoni_port_post(
     if !handle.is_open {
         return WRONG_STATE;
     }
-    let mut kept = handle.take(alloc);
-    let status = kept.post(message, wake);
-    *handle = Handle::open(kept);
+    let mut resource = handle.take(alloc);
+    let status = resource.post(message, wake);
+    *handle = Handle::open(resource);
     status
 }
 
@@ -75,7 +74,7 @@ pub extern "C" fn varukoni_port_take(
     handle: &mut Handle,
     message: &mut Message,
 ) -> u8
-    ensures took { result ≡ 0 → At (AtPort (Takes message.new)) handle.old handle.new }
+    ensures took { result ≡ 0 → At (AtPort (TakesMessage message.new)) handle.old handle.new }
     ensures empty { result ≡ 1 → At (AtPort TakesNone) handle.old handle.new }
     ensures ended { result ≡ 2 → At (AtPort TakesLast) handle.old handle.new }
     ensures disabled { result ≡ 4 → At (AtPort Waits) handle.old handle.new }
@@ -87,9 +86,9 @@ pub extern "C" fn varukoni_port_take(
     if !handle.is_open {
         return WRONG_STATE;
     }
-    let mut kept = handle.take(alloc);
-    let status = kept.take(message);
-    *handle = Handle::open(kept);
+    let mut resource = handle.take(alloc);
+    let status = resource.take(message);
+    *handle = Handle::open(resource);
     status
 }
 
@@ -103,9 +102,9 @@ pub extern "C" fn varukoni_port_start(alloc: Global, handle: &mut Handle) -> u8
     if !handle.is_open {
         return WRONG_STATE;
     }
-    let mut kept = handle.take(alloc);
-    let status = kept.start();
-    *handle = Handle::open(kept);
+    let mut resource = handle.take(alloc);
+    let status = resource.start();
+    *handle = Handle::open(resource);
     status
 }
 
@@ -126,9 +125,9 @@ pub extern "C" fn varukoni_port_arm(
     if !handle.is_open {
         return WRONG_STATE;
     }
-    let mut kept = handle.take(alloc);
-    let status = kept.arm(token, old);
-    *handle = Handle::open(kept);
+    let mut resource = handle.take(alloc);
+    let status = resource.arm(token, old);
+    *handle = Handle::open(resource);
     status
 }
 
@@ -149,9 +148,9 @@ pub extern "C" fn varukoni_port_adopt(
     if !handle.is_open {
         return WRONG_STATE;
     }
-    let mut kept = handle.take(alloc);
-    let status = kept.adopt(token, old);
-    *handle = Handle::open(kept);
+    let mut resource = handle.take(alloc);
+    let status = resource.adopt(token, old);
+    *handle = Handle::open(resource);
     status
 }
 
@@ -164,7 +163,7 @@ pub extern "C" fn varukoni_port_close(
     own: &mut u64,
     peer: &mut u64,
 ) -> u8
-    ensures closed { result ≡ 0 → At Closes handle.old handle.new }
+    ensures closed { result ≡ 0 → At ClosesPort handle.old handle.new }
     ensures other { result ≡ 5 → HeldNo is_port_in handle.old handle.new × (own.new ≡ own.old)
         × (peer.new ≡ peer.old) }
     ensures statuses { (result ≡ 0) ⊎ (result ≡ 5) }
@@ -172,9 +171,9 @@ pub extern "C" fn varukoni_port_close(
     if !handle.is_open {
         return WRONG_STATE;
     }
-    let mut kept = handle.take(alloc);
-    let status = kept.close(own, peer);
-    *handle = Handle::open(kept);
+    let mut resource = handle.take(alloc);
+    let status = resource.close(own, peer);
+    *handle = Handle::open(resource);
     status
 }
 
@@ -195,9 +194,9 @@ pub extern "C" fn varukoni_port_drain(
     if !handle.is_open {
         return WRONG_STATE;
     }
-    let mut kept = handle.take(alloc);
-    let status = kept.drain(message);
-    *handle = Handle::open(kept);
+    let mut resource = handle.take(alloc);
+    let status = resource.drain(message);
+    *handle = Handle::open(resource);
     status
 }
 
@@ -205,16 +204,16 @@ pub extern "C" fn varukoni_port_drain(
 #[unsafe(no_mangle)]
 pub extern "C" fn varukoni_port_name(alloc: Global, handle: &mut Handle, name: &mut u64) -> u8
     ensures named { result ≡ 0 → SameHeld handle.old handle.new
-        × IsNamed name.new handle.old.slot.held }
+        × NamesChannel name.new handle.old.slot.held }
     ensures other { result ≡ 5 → HeldNo is_port_in handle.old handle.new × (name.new ≡ name.old) }
     ensures statuses { (result ≡ 0) ⊎ (result ≡ 5) }
 {
     if !handle.is_open {
         return WRONG_STATE;
     }
-    let kept = handle.take(alloc);
-    let status = kept.name(name);
-    *handle = Handle::open(kept);
+    let resource = handle.take(alloc);
+    let status = resource.name(name);
+    *handle = Handle::open(resource);
     status
 }
 

@@ -1,12 +1,11 @@
 //! The calls for a poster of a fan.
 ghost use Rattle.std.specs.Prelude.{◌≡◌, ◌⊎◌, true, false};
 ghost use Rattle.hub_ports_c.specs.Handles.{At, HeldNo};
-ghost use Rattle.hub_ports_c.specs.Held.{Gives, is_poster_in};
-ghost use Rattle.hub_ports_c.specs.KeptFans.{AtPoster, IsPoster, PostsNone, PostsOver, RefusesOver};
+ghost use Rattle.hub_ports_c.specs.Held.{GivesAway, is_poster_in};
+ghost use Rattle.hub_ports_c.specs.FanResources.{AtPoster, IsPoster, PostsNone, PostsToFan, RefusesOver};
 
 use crate::handle::Handle;
-use crate::kept::Kept;
-use crate::message::Message;
+use crate::resource::{Message, Resource};
 use crate::status::{DONE, WRONG_STATE};
 use std::alloc::Global;
 
@@ -18,7 +17,7 @@ pub extern "C" fn varukoni_poster_post(
     message: &Message,
     wake: &mut u64,
 ) -> u8
-    ensures posted { result ≡ 0 → At (AtPoster (PostsOver message.now)) handle.old handle.new }
+    ensures posted { result ≡ 0 → At (AtPoster (PostsToFan message.now)) handle.old handle.new }
     ensures no_memory { result ≡ 3 → At (AtPoster PostsNone) handle.old handle.new }
     ensures closed { result ≡ 6 → At (AtPoster RefusesOver) handle.old handle.new }
     ensures other { result ≡ 5 → HeldNo is_poster_in handle.old handle.new }
@@ -28,26 +27,26 @@ pub extern "C" fn varukoni_poster_post(
     if !handle.is_open {
         return WRONG_STATE;
     }
-    let mut kept = handle.take(alloc);
-    let status = kept.post_over(message, wake);
-    *handle = Handle::open(kept);
+    let mut resource = handle.take(alloc);
+    let status = resource.post_over(message, wake);
+    *handle = Handle::open(resource);
     status
 }
 
 /// Gives a line of a fan back, and closes its poster's handle. It says whom to wake.
 #[unsafe(no_mangle)]
 pub extern "C" fn varukoni_poster_close(alloc: Global, handle: &mut Handle, wake: &mut u64) -> u8
-    ensures closed { result ≡ 0 → Gives IsPoster handle.old.slot.held handle.new.slot.held }
+    ensures closed { result ≡ 0 → GivesAway IsPoster handle.old.slot.held handle.new.slot.held }
     ensures other { result ≡ 5 → HeldNo is_poster_in handle.old handle.new × (wake.new ≡ wake.old) }
     ensures statuses { (result ≡ 0) ⊎ (result ≡ 5) }
 {
     if !handle.is_open {
         return WRONG_STATE;
     }
-    let mut kept = handle.take(alloc);
-    let status = kept.close_poster(wake);
+    let mut resource = handle.take(alloc);
+    let status = resource.close_poster(wake);
     if status == WRONG_STATE {
-        *handle = Handle::open(kept);
+        *handle = Handle::open(resource);
     }
     status
 }

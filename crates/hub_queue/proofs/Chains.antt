@@ -12,7 +12,7 @@ use Rattle.hub_queue.specs.Adopting.{retired_queue}
 use Rattle.hub_queue.specs.Counting.{Count}
 use Rattle.hub_queue.specs.Ending.{closed_queue}
 use Rattle.hub_queue.specs.Mailboxes.{IsNewTakerQueue}
-use Rattle.hub_queue.specs.TakerQueues.{TakerQueueSeat, IsShut, IsQueueOf, TakesMore, IsSettled}
+use Rattle.hub_queue.specs.TakerQueues.{TakerQueueSeat, IsShut, IsQueueOf, TakesThese, IsQueueSettled}
 use Rattle.hub_queue.specs.Settling.{IsEmptied}
 use Rattle.hub_queue.specs.Sweeping.{TakesOfEach, OneIsHeldUp, AreSwept}
 use Rattle.hub_queue.specs.declared.settling.Stop.{Stop}
@@ -131,7 +131,7 @@ module _ {A : Type 0} where
   joined_on xs x ys = sym (append_assoc xs (x ∷ []) ys)
 
 -- what was taken of a queue, and then more
-pub more_and_more : (p q r : TakerQueueSeat) (xs ys : List Envelope) → TakesMore p q xs → TakesMore q r ys → TakesMore p r (xs ++ ys)
+pub more_and_more : (p q r : TakerQueueSeat) (xs ys : List Envelope) → TakesThese p q xs → TakesThese q r ys → TakesThese p r (xs ++ ys)
 more_and_more p q r xs ys first second = record {
   queue = second.queue ∙ first.queue;
   same_gate = record {
@@ -146,7 +146,7 @@ more_and_more p q r xs ys first second = record {
   got = second.got ∙ ap (λ (l : List Envelope). l ++ ys) first.got ∙ append_assoc p.at.got xs ys;
 }
 
-pub same_queue : (p : TakerQueueSeat) → TakesMore p p []
+pub same_queue : (p : TakerQueueSeat) → TakesThese p p []
 same_queue p = record { queue = refl; same_gate = record { gate = refl; enables = refl; retires = refl; closes = refl }; end = refl; epoch = refl; lines = refl; got = sym (append-nil p.at.got) }
 
 -- nothing was taken of any queue
@@ -155,7 +155,7 @@ takes_none [] = refl
 takes_none (p ∷ ps) = ([], [], refl, record { queue = refl; same_gate = record { gate = refl; enables = refl; retires = refl; closes = refl }; end = refl; epoch = refl; lines = refl; got = sym (append-nil p.at.got) }, takes_none ps)
 
 -- what was taken of one queue
-pub takes_one : (p q : TakerQueueSeat) (here : List Envelope) → TakesMore p q here → TakesOfEach (p ∷ []) (q ∷ []) here
+pub takes_one : (p q : TakerQueueSeat) (here : List Envelope) → TakesThese p q here → TakesOfEach (p ∷ []) (q ∷ []) here
 takes_one p q here took = (here, [], sym (append-nil here), took, refl)
 
 -- what was taken of two lists of queues
@@ -202,7 +202,7 @@ pub record DoneSoFar (whole now : List TakerQueueSeat) (index : ℕ) (old new : 
   pub count : length done ≡ index
   pub envelopes : new ≡ old ++ more
   pub took : TakesOfEach before done more
-  pub settled : AllByRecursion IsSettled done
+  pub settled : AllByRecursion IsQueueSettled done
   pub shut : AllByRecursion IsShut done
 
 pub none_done : (whole : List TakerQueueSeat) (old : List Envelope) → DoneSoFar whole whole 0 old old
@@ -237,7 +237,7 @@ module _ (whole now : List TakerQueueSeat) (index : ℕ) (old new : List Envelop
           count = length-append so_far.done (q ∷ []) ∙ ap (λ (n : ℕ). n + 1) so_far.count;
           envelopes = did.1 ∙ ap (λ (l : List Envelope). l ++ did.0) so_far.envelopes ∙ append_assoc old so_far.more did.0;
           took = takes_join so_far.before so_far.done (p ∷ []) (q ∷ []) so_far.more did.0 so_far.took (takes_one p q did.0 did.2);
-          settled = all_join IsSettled so_far.done (q ∷ []) so_far.settled (did.4, tt);
+          settled = all_join IsQueueSettled so_far.done (q ∷ []) so_far.settled (did.4, tt);
           shut = all_join IsShut so_far.done (q ∷ []) so_far.shut (did.3, tt);
         }
 
@@ -274,7 +274,7 @@ module _ (whole now : List TakerQueueSeat) (index : ℕ) (old new : List Envelop
           so_far.more ++ did.0,
           did.1 ∙ ap (λ (l : List Envelope). l ++ did.0) so_far.envelopes ∙ append_assoc old so_far.more did.0,
           takes_join so_far.before so_far.done (last ∷ []) (q ∷ []) so_far.more did.0 so_far.took (takes_one last q did.0 did.2),
-          all_join IsSettled so_far.done (q ∷ []) so_far.settled (did.4, tt),
+          all_join IsQueueSettled so_far.done (q ∷ []) so_far.settled (did.4, tt),
         ),
       )
       ended (Err stop) did = (

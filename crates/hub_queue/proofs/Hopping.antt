@@ -17,7 +17,7 @@ use Rattle.hub_queue.specs.Putting.{IsPut}
 use Rattle.hub_queue.specs.Seats.{LineSeat, IsNameOf}
 use Rattle.hub_bell.specs.Seats.{Done, silent}
 use Rattle.hub_queue.specs.Rings.{HasRung, RingsOnward}
-use Rattle.hub_queue.specs.Standing.{StandSeat, IsNext, HasNotPushed, put_of, right_in, right_of, entry_in}
+use Rattle.hub_queue.specs.Standing.{StandSeat, FollowsStand, HasNotPushed, put_of, right_in, right_of, entry_in}
 use Rattle.hub_queue.specs.Trying.{IsAnswered, IsPutInside, IsTried, gone_to, GoesToUnused, IsPostedOnward, error_of}
 
 -- what is left behind is left of as many gates as are looked at
@@ -41,7 +41,7 @@ pub record GoneOn (turned here : StandSeat) (hops : ℕ) (first found : Refusal)
   pub some : 0 < hops → IsNameOf (put_of here) here.name × HasNotPushed (put_of here) × HasSeen here 0 found
 
 -- the line goes on once more
-module _ (turned here next : StandSeat) (hops : ℕ) (first found : Refusal) (gone : GoneOn turned here hops first found) (few : hops < MAX_HOPS) (is_next : IsNext here.name next) where
+module _ (turned here next : StandSeat) (hops : ℕ) (first found : Refusal) (gone : GoneOn turned here hops first found) (few : hops < MAX_HOPS) (is_next : FollowsStand here.name next) where
   abbrev there : StandSeat
   there = gone_to here next
 

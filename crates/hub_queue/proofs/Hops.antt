@@ -14,7 +14,7 @@ use Rattle.hub_queue.specs.declared.pause.Point.TheVariants.{Before, Hopping}
 use Rattle.hub_envelope.specs.declared.posted.Posted.{Posted}
 use Rattle.hub_queue.specs.declared.error.PostError.{PostError}
 use Rattle.hub_queue.specs.Posting.{StaysAt, name_after}
-use Rattle.hub_queue.specs.Standing.{StandSeat, IsNext}
+use Rattle.hub_queue.specs.Standing.{StandSeat, FollowsStand}
 use Rattle.hub_queue.specs.Trying.{IsAnswered, gone_to}
 use Rattle.hub_queue.specs.Watching.{told_more, points_inside, points_hopping, points_refused, points_at_last, points_onward, points_of}
 use Rattle.hub_queue.specs.Yards.{Yard, hops_between, without_next, IsStandOf, GoesNoFurther, IsHeldBack, IsHoppedOver}
@@ -75,7 +75,7 @@ went_and_stays (Some was) now from there here hops stays went = record {
 }
 
 -- it takes the stand at the next queue, goes on, and stands there, where `seen` is how the code sees where it stood
-pub went_there : (was now later : Option Yard) (from : Key) (here seen next there : StandSeat) (hops : ℕ) → here.name ≡ name_after from hops → seen ≡ here → IsNext seen.name next → WentOver was now from here hops → IfSome now (λ y. Some next ≡ map.get y (name_after seen.name 1)) → later ≡ option_map (λ y. map.remove y (name_after seen.name 1)) now → StaysAt (gone_to here next) there → WentOver was later from there (hops + 1) × (there.name ≡ name_after from (hops + 1))
+pub went_there : (was now later : Option Yard) (from : Key) (here seen next there : StandSeat) (hops : ℕ) → here.name ≡ name_after from hops → seen ≡ here → FollowsStand seen.name next → WentOver was now from here hops → IfSome now (λ y. Some next ≡ map.get y (name_after seen.name 1)) → later ≡ option_map (λ y. map.remove y (name_after seen.name 1)) now → StaysAt (gone_to here next) there → WentOver was later from there (hops + 1) × (there.name ≡ name_after from (hops + 1))
 went_there was now later from here seen next there hops named same is_next went found rest stays =
     let next_named : next.name ≡ name_after here.name 1 = is_next.name_is ∙ ap (λ (s : StandSeat). name_after s.name 1) same in
     let in_yard = subst (λ (s : StandSeat). IfSome now (λ y. Some next ≡ map.get y (name_after s.name 1))) same found in

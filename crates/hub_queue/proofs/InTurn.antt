@@ -9,7 +9,7 @@ use Rattle.hub_queue.specs.declared.taker.Took.{Took}
 use Rattle.hub_queue.specs.declared.taker.Took.TheVariants.{Got, Empty, Busy, Again, Disabled, Closed}
 use Rattle.hub_queue.specs.Adopting.{retired_queue}
 use Rattle.hub_queue.specs.Counting.{Count}
-use Rattle.hub_queue.specs.Laws.{TakenIsPrefix, NothingTaken, ahead_of, NothingAhead, TakesInTurn, got_from, joined, ChainIsPrefix}
+use Rattle.hub_queue.specs.Laws.{TakenIsPrefix, NothingTaken, ahead_of, NothingAhead, TakesInTurn, got_from, all_put, ChainIsPrefix}
 use Rattle.hub_queue.specs.TakerQueues.{TakerQueueSeat}
 use Rattle.hub_queue.specs.SharedQueue.{ShowsQueue}
 use Rattle.hub_queue.specs.Taking.{TakerSeat, IsTaken, TakesNewest, TakesRetired, enabled_queue, first_of, left_after}
@@ -94,9 +94,9 @@ got_first [] newest none = append-nil newest.at.got
 got_first (p ∷ ps) newest none = ap (λ (l : List Envelope). p.at.got ++ l) (none_joined (ps ++ newest ∷ []) none) ∙ append-nil p.at.got
 
 pub chain_prefix : ChainIsPrefix
-chain_prefix line [] t before ahead now all first none = subst (λ (l : List (List Envelope)). Prefix (by line (got_from (t.retired ++ t.newest ∷ []))) (joined (l ++ now ∷ ahead))) (sym all) (
-  first.0 ++ joined ahead,
-  ap (λ (l : List Envelope). l ++ joined ahead) first.1 ∙ append_assoc _ first.0 (joined ahead) ∙ ap (λ (l : List Envelope). by line l ++ (first.0 ++ joined ahead)) (sym (got_first t.retired t.newest none)),
+chain_prefix line [] t before ahead now all first none = subst (λ (l : List (List Envelope)). Prefix (by line (got_from (t.retired ++ t.newest ∷ []))) (all_put (l ++ now ∷ ahead))) (sym all) (
+  first.0 ++ all_put ahead,
+  ap (λ (l : List Envelope). l ++ all_put ahead) first.1 ∙ append_assoc _ first.0 (all_put ahead) ∙ ap (λ (l : List Envelope). by line l ++ (first.0 ++ all_put ahead)) (sym (got_first t.retired t.newest none)),
 )
 chain_prefix line (p ∷ left) t [] ahead now all first none = absurd all
 chain_prefix line (p ∷ left) t (put ∷ before) ahead now all first none =

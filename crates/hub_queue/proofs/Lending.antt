@@ -13,8 +13,8 @@ use Rattle.hub_queue.specs.declared.store.PutView.{PutView}
 use Rattle.hub_queue.specs.declared.store.TakeView.{TakeView}
 use Rattle.hub_queue.specs.declared.store.PassView.{PassView}
 use Rattle.hub_queue.specs.declared.store.PassView.TheVariants.{Takes, Puts, Both, Spent}
-use Rattle.hub_queue.specs.SharedQueue.{SharedQueue, IsPutter, IsTaker, Knows, ShowsQueue}
-use Rattle.hub_queue.specs.PassSteps.{lent, lent_left, joined, taker_again, line_again, Learnt}
+use Rattle.hub_queue.specs.SharedQueue.{SharedQueue, IsPutter, IsTaker, KnowsQueue, ShowsQueue}
+use Rattle.hub_queue.specs.PassSteps.{lent, lent_left, joined_pass, taker_again, line_again, Learnt}
 use Rattle.hub_queue.proofs.Rule.{Spares, taken_stays, stays, know_set, know_snoc}
 
 -- a line gets another pass
@@ -54,7 +54,7 @@ module _ (id : ℕ) (before left : PassView) (v : PutView) (items : List Envelop
   abbrev q' : SharedQueue
   q' = given h.shared v.line id (length vs) mine.stands
 
-  pub handed : Knows q' id left → ShowsQueue items (vs ++ Puts v ∷ [])
+  pub handed : KnowsQueue q' id left → ShowsQueue items (vs ++ Puts v ∷ [])
   handed left_knows = record {
     shared = q';
     is_queue = h.is_queue;
@@ -79,7 +79,7 @@ joins id t other v items views h at two there =
     let was : get_elem? views other ≡ some (Puts v) = ⊎_elim (λ mine. absurd (two mine.0)) (λ theirs. theirs.1) (at_set views id other (Both t v) (Puts v) there) in
     let theirs : IsPutter h.shared other v = h.knows other (Puts v) was in
     let next : SharedQueue = given h.shared v.line other id theirs.stands in
-    let both : Knows next id (Both t v) = (given_taker h.shared v.line other id theirs.stands id t (h.knows id (Takes t) at), given_putter h.shared v.line other id theirs.stands v refl theirs) in
+    let both : KnowsQueue next id (Both t v) = (given_taker h.shared v.line other id theirs.stands id t (h.knows id (Takes t) at), given_putter h.shared v.line other id theirs.stands v refl theirs) in
     record {
       shared = next;
       is_queue = h.is_queue;
@@ -87,7 +87,7 @@ joins id t other v items views h at two there =
       unused = given_unused h.shared v.line other id theirs.stands theirs.within h.unused;
       few = h.few;
       knows = know_set next (set views id (Both t v)) other Spent tt (λ j u apart now_there. ⊎_elim
-          (λ me. subst (λ (w : PassView). Knows next j w) me.1 (subst (λ (i : ℕ). Knows next i (Both t v)) (sym me.0) both))
+          (λ me. subst (λ (w : PassView). KnowsQueue next j w) me.1 (subst (λ (i : ℕ). KnowsQueue next i (Both t v)) (sym me.0) both))
           (λ third. stays h.shared next (λ j. j ≢ other) (given_spares h.shared v.line other id theirs.stands) j u apart (h.knows j u third.1))
           (at_set views id j (Both t v) u now_there));
     }
@@ -96,17 +96,17 @@ joins id t other v items views h at two there =
 pub lends_at : (id : ℕ) (w : PassView) (v : PutView) → w ≡ Puts v → Forks ShowsQueue id w (lent_left w) (lent w)
 lends_at id w v is = subst (λ (z : PassView). Forks ShowsQueue id z (lent_left z) (lent z)) (sym is) (lends id v)
 
-pub joins_at : (id : ℕ) (w : PassView) (t : TakeView) (other : ℕ) (u : PassView) (v : PutView) → w ≡ Takes t → u ≡ Puts v → Merges ShowsQueue id w other u (joined w u) Spent
+pub joins_at : (id : ℕ) (w : PassView) (t : TakeView) (other : ℕ) (u : PassView) (v : PutView) → w ≡ Takes t → u ≡ Puts v → Merges ShowsQueue id w other u (joined_pass w u) Spent
 joins_at id w t other u v is its =
-    subst (λ (z : PassView). Merges ShowsQueue id z other u (joined z u) Spent) (sym is)
-    (subst (λ (y : PassView). Merges ShowsQueue id (Takes t) other y (joined (Takes t) y) Spent) (sym its) (joins id t other v))
+    subst (λ (z : PassView). Merges ShowsQueue id z other u (joined_pass z u) Spent) (sym is)
+    (subst (λ (y : PassView). Merges ShowsQueue id (Takes t) other y (joined_pass (Takes t) y) Spent) (sym its) (joins id t other v))
 
 pub gives_back_at : (id : ℕ) (w : PassView) (t : TakeView) (v : PutView) → w ≡ Both t v → Forks ShowsQueue id w (taker_again w) (line_again w)
 gives_back_at id w t v is = subst (λ (z : PassView). Forks ShowsQueue id z (taker_again z) (line_again z)) (sym is) (gives_back id t v)
 
 -- the taker's pass has the pass of a line, and what it learns of the queue
-pub are_joined : (w u : PassView) (t : TakeView) (v : PutView) → w ≡ Takes t → u ≡ Puts v → joined w u ≡ Both t v
-are_joined w u t v is its = λ i. joined (is i) (its i)
+pub are_joined : (w u : PassView) (t : TakeView) (v : PutView) → w ≡ Takes t → u ≡ Puts v → joined_pass w u ≡ Both t v
+are_joined w u t v is its = λ i. joined_pass (is i) (its i)
 
 pub compared : (w : PassView) (t : TakeView) (v : PutView) (n : ℕ) → w ≡ Both t v → Held n (Learnt w) → (v.line < t.lines) × Prefix (by v.line t.got) v.put
 compared w t v n is held =

@@ -17,7 +17,7 @@ use Rattle.hub_queue.specs.declared.store.PutView.{PutView}
 use Rattle.hub_queue.specs.declared.store.TakeView.{TakeView}
 use Rattle.hub_queue.specs.declared.store.PassView.{PassView}
 use Rattle.hub_queue.specs.declared.store.PassView.TheVariants.{Takes, Puts, Both, Spent}
-use Rattle.hub_queue.specs.SharedQueue.{SharedQueue, IsPutter, IsTakenIn, IsTaker, Knows, ShowsQueue, first_view}
+use Rattle.hub_queue.specs.SharedQueue.{SharedQueue, IsPutter, IsTakenIn, IsTaker, KnowsQueue, ShowsQueue, first_view}
 use Rattle.hub_queue.specs.PassSteps.{put_more, refused_more, refusal_counted, no_more, got_more, cut_more, next_put, known_more, after_put, after_take, taker_left, line_cut, taken_in, TellsOf, IsPopped, ShowsHeld, AccountsFor, Learnt}
 
 -- what a step of other passes leaves
@@ -49,7 +49,7 @@ module _ (q q' : SharedQueue) (Other : ℕ → Type 0) (spares : Spares q q' Oth
       let same = spares.taker pass other k.stands in
       record { stands = k.stands ∙ sym same.0; end = k.end ∙ sym same.1; epoch = k.epoch ∙ sym same.2; lines = k.lines ∙ sym same.3; got = k.got ∙ sym same.4; known = λ i u there. taken_stays u (k.known i u there) }
 
-  pub stays : (pass : ℕ) (v : PassView) → Other pass → Knows q pass v → Knows q' pass v
+  pub stays : (pass : ℕ) (v : PassView) → Other pass → KnowsQueue q pass v → KnowsQueue q' pass v
   stays pass (Takes t) other k = taker_stays pass t other k
   stays pass (Puts v) other k = putter_stays pass v other k
   stays pass (Both t v) other k = (taker_stays pass t other k.0, putter_stays pass v other k.1)
@@ -62,12 +62,12 @@ all_at P (z ∷ xs) x ys h = all_at P xs x ys (All-tail P z (xs ++ x ∷ ys) h)
 
 -- what all passes know
 abbrev pub KnowAll : SharedQueue → List PassView → Type 0
-KnowAll q views = (pass : ℕ) (v : PassView) → get_elem? views pass ≡ some v → Knows q pass v
+KnowAll q views = (pass : ℕ) (v : PassView) → get_elem? views pass ≡ some v → KnowsQueue q pass v
 
 -- one pass has another view
-pub know_set : (q' : SharedQueue) (views : List PassView) (id : ℕ) (w : PassView) → Knows q' id w → ((j : ℕ) (v : PassView) → j ≢ id → get_elem? views j ≡ some v → Knows q' j v) → KnowAll q' (set views id w)
+pub know_set : (q' : SharedQueue) (views : List PassView) (id : ℕ) (w : PassView) → KnowsQueue q' id w → ((j : ℕ) (v : PassView) → j ≢ id → get_elem? views j ≡ some v → KnowsQueue q' j v) → KnowAll q' (set views id w)
 know_set q' views id w mine others j v there = ⊎_elim
-    (λ me. subst (λ (u : PassView). Knows q' j u) me.1 (subst (λ (i : ℕ). Knows q' i w) (sym me.0) mine))
+    (λ me. subst (λ (u : PassView). KnowsQueue q' j u) me.1 (subst (λ (i : ℕ). KnowsQueue q' i w) (sym me.0) mine))
     (λ other. others j v other.0 other.1)
     (at_set views id j w v there)
 
@@ -79,17 +79,17 @@ at_end (x ∷ xs) a b zero e = inl e
 at_end (x ∷ xs) a b (suc j) e = ⊎_elim (λ t. inl t) (λ t. inr (ap suc t.0, t.1)) (at_end xs a b j e)
 
 -- a new pass joins at the end
-pub know_snoc : (q' : SharedQueue) (views : List PassView) (w : PassView) → KnowAll q' views → Knows q' (length views) w → KnowAll q' (views ++ w ∷ [])
+pub know_snoc : (q' : SharedQueue) (views : List PassView) (w : PassView) → KnowAll q' views → KnowsQueue q' (length views) w → KnowAll q' (views ++ w ∷ [])
 know_snoc q' views w all mine j v there = ⊎_elim
     (λ old. all j v old)
-    (λ new. subst (λ (u : PassView). Knows q' j u) new.1 (subst (λ (i : ℕ). Knows q' i w) (sym new.0) mine))
+    (λ new. subst (λ (u : PassView). KnowsQueue q' j u) new.1 (subst (λ (i : ℕ). KnowsQueue q' i w) (sym new.0) mine))
     (at_end views w v j there)
 
 abbrev new_shared : SharedQueue
 new_shared = record { end = 0; epoch = 0; lines = 0; state = new_queue; taker = 0; pass_of = λ line. None }
 
 first_knows : KnowAll new_shared (first_view ∷ [])
-first_knows zero v there = subst (λ (u : PassView). Knows new_shared 0 u) (some-injective first_view v there) (record { stands = refl; end = refl; epoch = refl; lines = refl; got = refl; known = λ i k none. none_got k none })
+first_knows zero v there = subst (λ (u : PassView). KnowsQueue new_shared 0 u) (some-injective first_view v there) (record { stands = refl; end = refl; epoch = refl; lines = refl; got = refl; known = λ i k none. none_got k none })
 first_knows (suc j) v there = absurd (some-ne-none v (sym there))
 
 pub begins : ShowsQueue [] (first_view ∷ [])
@@ -380,7 +380,7 @@ module _ (id : ℕ) (t : TakeView) (other : ℕ) (v : PutView) (items : List Env
     unused = λ l past. in_none_either (eqb l v.line) l (h.unused l past);
     few = h.few;
     knows = know_set in_q' in_joined other Spent tt (λ j u apart now_there. ⊎_elim
-        (λ me. subst (λ (w : PassView). Knows in_q' j w) me.1 (subst (λ (i : ℕ). Knows in_q' i (Takes (known_more t v))) (sym me.0) in_mine_now))
+        (λ me. subst (λ (w : PassView). KnowsQueue in_q' j w) me.1 (subst (λ (i : ℕ). KnowsQueue in_q' i (Takes (known_more t v))) (sym me.0) in_mine_now))
         (λ third. stays in_q in_q' in_Third in_spares j u (third.0, apart) (h.knows j u third.1))
         (at_set views id j (Takes (known_more t v)) u now_there));
   }

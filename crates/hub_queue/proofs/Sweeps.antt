@@ -6,9 +6,9 @@ use Rattle.hub_core.specs.Sender.{by}
 use Rattle.hub_gate.specs.GateSeats.{KeeperSeat}
 use Rattle.hub_queue.specs.declared.store.TakeView.{TakeView}
 use Rattle.hub_queue.specs.PassSteps.{got_more, IsPopped, AccountsFor}
-use Rattle.hub_queue.specs.TakerQueues.{TakerQueueSeat, KnowsAll, KnowsBy, IsShut, SameGate, TakesMore, IsSettled}
+use Rattle.hub_queue.specs.TakerQueues.{TakerQueueSeat, KnowsAll, KnowsBy, IsShut, SameGate, TakesThese, IsQueueSettled}
 use Rattle.hub_queue.specs.Seats.{LineSeat}
-use Rattle.hub_queue.specs.Settling.{looked, IsSettling, IsQueuePop, got_all, HoldsNothing}
+use Rattle.hub_queue.specs.Settling.{after_look, IsSettling, IsQueuePop, got_all, IsEmptyHanded}
 
 -- what a pass knows of its lines stays while envelopes are taken
 pub knows_got : (b : Bool) (t : TakeView) (x : Envelope) → KnowsBy b t → KnowsBy b (got_more t x)
@@ -34,11 +34,11 @@ gate_of old new keeper is same = record {
 }
 
 -- a look takes nothing
-pub look_takes : (old new : TakerQueueSeat) → IsSettling old new true → TakesMore old new [] × (new.keeper.at.collected ≡ true) × KnowsAll new.at
+pub look_takes : (old new : TakerQueueSeat) → IsSettling old new true → TakesThese old new [] × (new.keeper.at.collected ≡ true) × KnowsAll new.at
 look_takes old new did = (
   record {
     queue = ap (λ (p : TakerQueueSeat). p.queue) did.2;
-    same_gate = gate_of old new (looked old.keeper did.0 true) (ap (λ (p : TakerQueueSeat). p.keeper) did.2) (record { gate = refl; enables = refl; retires = refl; closes = refl });
+    same_gate = gate_of old new (after_look old.keeper did.0 true) (ap (λ (p : TakerQueueSeat). p.keeper) did.2) (record { gate = refl; enables = refl; retires = refl; closes = refl });
     end = ap (λ (p : TakerQueueSeat). p.at.end) did.2;
     epoch = ap (λ (p : TakerQueueSeat). p.at.epoch) did.2;
     lines = ap (λ (p : TakerQueueSeat). p.at.lines) did.2;
@@ -49,7 +49,7 @@ look_takes old new did = (
 )
 
 -- where all rights are in hand and the queue holds nothing, everything that was put was taken
-pub is_settled : (p : TakerQueueSeat) → p.keeper.at.collected ≡ true → KnowsAll p.at → AccountsFor p.at [] → IsSettled p
+pub is_settled : (p : TakerQueueSeat) → p.keeper.at.collected ≡ true → KnowsAll p.at → AccountsFor p.at [] → IsQueueSettled p
 is_settled p collected knows nothing = record {
   collected = collected;
   each = λ line low.
@@ -59,17 +59,17 @@ is_settled p collected knows nothing = record {
 }
 
 -- a look that settles, and then a pop of none
-pub leaves : (old mid new : TakerQueueSeat) → IsSettling old mid true → IsQueuePop mid new None → TakesMore old new [] × IsSettled new
-leaves old mid new looked popped =
+pub leaves : (old mid new : TakerQueueSeat) → IsSettling old mid true → IsQueuePop mid new None → TakesThese old new [] × IsQueueSettled new
+leaves old mid new after_look popped =
     let same : new ≡ mid = popped.0 ∙ (λ i. record { queue = mid.queue; at = popped.1.0 i; keeper = mid.keeper }) in
-    let took = look_takes old mid looked in
-    subst (λ (p : TakerQueueSeat). TakesMore old p [] × IsSettled p) (sym same) (took.0, is_settled mid took.1 took.2 popped.1.2)
+    let took = look_takes old mid after_look in
+    subst (λ (p : TakerQueueSeat). TakesThese old p [] × IsQueueSettled p) (sym same) (took.0, is_settled mid took.1 took.2 popped.1.2)
 
 -- a look that settles, and then all that the queue holds
-module _ (old mid new : TakerQueueSeat) (more : List Envelope) (looked : IsSettling old mid true) (did : new ≡ record { queue = mid.queue; at = got_all mid.at more; keeper = mid.keeper }) where
-  pub takes_more : TakesMore old new more
+module _ (old mid new : TakerQueueSeat) (more : List Envelope) (after_look : IsSettling old mid true) (did : new ≡ record { queue = mid.queue; at = got_all mid.at more; keeper = mid.keeper }) where
+  pub takes_more : TakesThese old new more
   takes_more =
-      let took = look_takes old mid looked in subst (λ (p : TakerQueueSeat). TakesMore old p more) (sym did) (record {
+      let took = look_takes old mid after_look in subst (λ (p : TakerQueueSeat). TakesThese old p more) (sym did) (record {
         queue = took.0.queue;
         same_gate = record { gate = took.0.same_gate.gate; enables = took.0.same_gate.enables; retires = took.0.same_gate.retires; closes = took.0.same_gate.closes };
         end = took.0.end;
@@ -79,9 +79,9 @@ module _ (old mid new : TakerQueueSeat) (more : List Envelope) (looked : IsSettl
       })
 
   pub still_shut : IsShut old → IsShut new
-  still_shut shut = subst IsShut (sym did) (shut_looked old mid true looked shut)
+  still_shut shut = subst IsShut (sym did) (shut_looked old mid true after_look shut)
 
-  pub settled_now : HoldsNothing new.at → IsSettled new
+  pub settled_now : IsEmptyHanded new.at → IsQueueSettled new
   settled_now nothing =
-      let took = look_takes old mid looked in
+      let took = look_takes old mid after_look in
       is_settled new (ap (λ (p : TakerQueueSeat). p.keeper.at.collected) did ∙ took.1) (subst (λ (p : TakerQueueSeat). KnowsAll p.at) (sym did) took.2) nothing.1

@@ -10,7 +10,7 @@ use Rattle.hub_envelope.specs.declared.envelope.Envelope.{Envelope}
 use Rattle.hub_queue.specs.declared.grave.Sweep.TheVariants.{Discarded, StillInside, NoRoom}
 use Rattle.hub_queue.specs.Graves.{GraveSeat, SweptSeat}
 use Rattle.hub_queue.specs.Laws.{got_from}
-use Rattle.hub_queue.specs.TakerQueues.{TakerQueueSeat, IsSettled}
+use Rattle.hub_queue.specs.TakerQueues.{TakerQueueSeat, IsQueueSettled}
 use Rattle.hub_queue.specs.Sweeping.{TakesOfEach, AreSameQueues, AreTaken, IsSwept, IsSweptSoFar, IsSweptOut, IsWholeChain, put_by, put_known}
 use Rattle.hub_queue.proofs.Chains.{more_and_more, same_queue}
 
@@ -92,7 +92,7 @@ swept_out g h s so_far (end, swept) = record {
 }
 
 -- what was taken of settled queues is all that was put in them
-pub whole_chain : (qs : List TakerQueueSeat) → AllByRecursion IsSettled qs → IsWholeChain qs
+pub whole_chain : (qs : List TakerQueueSeat) → AllByRecursion IsQueueSettled qs → IsWholeChain qs
 whole_chain [] settled line low = refl
 whole_chain (q ∷ qs) settled line low =
     let known = settled.0.each line low.0 in

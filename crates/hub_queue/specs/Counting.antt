@@ -7,6 +7,6 @@ pub record Count : Type 0 where
   pub none : ℕ
 
 -- one pop more
-abbrev pub counted : Count → Bool → Count
-counted c true = record { pops = c.pops + 1; none = c.none + 1 }
-counted c false = record { pops = c.pops + 1; none = c.none }
+abbrev pub pop_counted : Count → Bool → Count
+pop_counted c true = record { pops = c.pops + 1; none = c.none + 1 }
+pop_counted c false = record { pops = c.pops + 1; none = c.none }

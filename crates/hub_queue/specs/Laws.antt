@@ -62,11 +62,11 @@ abbrev pub got_from : List TakerQueueSeat → List Envelope
 got_from ps = flat_map (λ p. p.at.got) ps
 
 -- what was put in these queues
-abbrev pub joined : List (List Envelope) → List Envelope
-joined puts = flat_map (λ put. put) puts
+abbrev pub all_put : List (List Envelope) → List Envelope
+all_put puts = flat_map (λ put. put) puts
 
 -- The queues that were left, and those of the taker. What was taken of a line is a prefix of what the line has put, queue after queue.
 abbrev pub ChainIsPrefix : Type 0
 ChainIsPrefix = (line : ℕ) (left : List TakerQueueSeat) (t : TakerSeat) (before ahead : List (List Envelope)) (now : List Envelope)
     → AllTaken line left before → Prefix (by line (first_queue t).at.got) now → NothingAhead t
-    → Prefix (by line (got_from (left ++ t.retired ++ t.newest ∷ []))) (joined (before ++ now ∷ ahead))
+    → Prefix (by line (got_from (left ++ t.retired ++ t.newest ∷ []))) (all_put (before ++ now ∷ ahead))

@@ -14,13 +14,13 @@ abbrev pub unrung : StandSeat → StandSeat
 unrung s = record { name = s.name; entry = s.entry; rung = silent; left = s.left }
 
 -- the name of a line at its queue
-abbrev pub name_of : PutView → Key
-name_of v = record { end = record { 0 = v.end }; epoch = v.epoch; line = record { 0 = v.line } }
+abbrev pub line_name : PutView → Key
+line_name v = record { end = record { 0 = v.end }; epoch = v.epoch; line = record { 0 = v.line } }
 
 -- the line of this entry, where there is one, which has left these gates
 abbrev pub line_shown : Option (EntrySeat LineSeat) → List (Option (EntrySeat LineSeat)) → Option StandSeat
 line_shown None left = None
-line_shown (Some e) left = Some (record { name = name_of (right_in e.at.home).at; entry = e; rung = silent; left = left })
+line_shown (Some e) left = Some (record { name = line_name (right_in e.at.home).at; entry = e; rung = silent; left = left })
 
 -- the queue is the newest of the closed end
 abbrev pub IsNewestOf : GraveSeat → TakerQueueSeat → Type 0

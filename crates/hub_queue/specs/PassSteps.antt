@@ -98,14 +98,14 @@ abbrev pub lent : PassView → PassView
 lent v = v
 
 -- the taker's pass takes in the pass of a line for a while, and gives it back
-abbrev pub joined : PassView → PassView → PassView
-joined (Takes t) (Puts v) = Both t v
-joined (Takes t) (Takes u) = Takes t
-joined (Takes t) (Both u v) = Takes t
-joined (Takes t) Spent = Takes t
-joined (Puts v) w = Puts v
-joined (Both t v) w = Both t v
-joined Spent w = Spent
+abbrev pub joined_pass : PassView → PassView → PassView
+joined_pass (Takes t) (Puts v) = Both t v
+joined_pass (Takes t) (Takes u) = Takes t
+joined_pass (Takes t) (Both u v) = Takes t
+joined_pass (Takes t) Spent = Takes t
+joined_pass (Puts v) w = Puts v
+joined_pass (Both t v) w = Both t v
+joined_pass Spent w = Spent
 
 abbrev pub taker_again : PassView → PassView
 taker_again (Both t v) = Takes t

@@ -19,9 +19,9 @@ abbrev pub known_by : {S T V A : Type 0} → Seat S (Going T V) A → V
 known_by pass = pass.me.view.client
 
 -- what the pass of a line knows
-abbrev pub put_in : PassView → PutView
-put_in (Puts v) = v
-put_in _ = record { end = 0; epoch = 0; line = 0; put = []; refused = 0 }
+abbrev pub put_view : PassView → PutView
+put_view (Puts v) = v
+put_view _ = record { end = 0; epoch = 0; line = 0; put = []; refused = 0 }
 
 -- what the taker's pass knows
 abbrev pub take_in : PassView → TakeView

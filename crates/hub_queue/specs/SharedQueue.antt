@@ -43,11 +43,11 @@ pub record IsTaker (q : SharedQueue) (pass : ℕ) (v : TakeView) : Type 0 where
   pub known : (i : ℕ) (k : PutView) → slice_get v.known i ≡ Some k → IsTakenIn q k
 
 -- what a pass knows is so
-abbrev pub Knows : SharedQueue → ℕ → PassView → Type 0
-Knows q pass (Takes t) = IsTaker q pass t
-Knows q pass (Puts v) = IsPutter q pass v
-Knows q pass (Both t v) = IsTaker q pass t × IsPutter q pass v
-Knows q pass Spent = Unit {0}
+abbrev pub KnowsQueue : SharedQueue → ℕ → PassView → Type 0
+KnowsQueue q pass (Takes t) = IsTaker q pass t
+KnowsQueue q pass (Puts v) = IsPutter q pass v
+KnowsQueue q pass (Both t v) = IsTaker q pass t × IsPutter q pass v
+KnowsQueue q pass Spent = Unit {0}
 
 -- The rule: what the queue holds is what a queue of this end and epoch holds after some pushes and pops, and what each pass knows of it is so.
 pub record ShowsQueue (items : List Envelope) (views : List PassView) : Type 0 where
@@ -56,7 +56,7 @@ pub record ShowsQueue (items : List Envelope) (views : List PassView) : Type 0 w
   pub held : shared.state.held ≡ items
   pub unused : (line : ℕ) → shared.lines ≤ line → shared.pass_of line ≡ None
   pub few : (line : ℕ) → length (shared.state.put line) ≤ MAX_PUT
-  pub knows : (pass : ℕ) (v : PassView) → get_elem? views pass ≡ maybe.some v → Knows shared pass v
+  pub knows : (pass : ℕ) (v : PassView) → get_elem? views pass ≡ maybe.some v → KnowsQueue shared pass v
 
 -- what the first pass of a queue knows: it is the taker's, and no line has a pass
 abbrev pub first_view : PassView

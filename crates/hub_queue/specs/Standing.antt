@@ -50,7 +50,7 @@ pub record IsUnused (s : StandSeat) : Type 0 where
   pub quiet : s.rung ≡ silent
 
 -- the stand of a line at the next queue of its end, which is not used yet
-pub record IsNext (name : Key) (s : StandSeat) : Type 0 where
+pub record FollowsStand (name : Key) (s : StandSeat) : Type 0 where
   pub name_is : s.name ≡ record { end = name.end; epoch = name.epoch + 1; line = name.line }
   pub named : IsNameOf (put_of s) s.name
   pub unused : IsUnused s

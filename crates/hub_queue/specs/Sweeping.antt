@@ -9,15 +9,15 @@ use Rattle.hub_queue.specs.declared.grave.Sweep.TheVariants.{Discarded, StillIns
 use Rattle.hub_queue.specs.declared.settling.Stop.{Stop}
 use Rattle.hub_queue.specs.declared.settling.Stop.TheVariants as stop
 use Rattle.hub_queue.specs.Graves.{GraveSeat, SweptSeat}
-use Rattle.hub_queue.specs.Laws.{got_from, joined}
-use Rattle.hub_queue.specs.TakerQueues.{TakerQueueSeat, TakesMore, IsHeldUp, IsSettled}
+use Rattle.hub_queue.specs.Laws.{got_from, all_put}
+use Rattle.hub_queue.specs.TakerQueues.{TakerQueueSeat, TakesThese, IsHeldUp, IsQueueSettled}
 
 -- the same queues, one for one; what was taken more of each, joined in their order, is this
 abbrev pub TakesOfEach : List TakerQueueSeat → List TakerQueueSeat → List Envelope → Type 0
 TakesOfEach [] [] more = more ≡ []
 TakesOfEach [] (q ∷ qs) more = ⊥
 TakesOfEach (p ∷ ps) [] more = ⊥
-TakesOfEach (p ∷ ps) (q ∷ qs) more = (here : List Envelope) × (rest : List Envelope) × (more ≡ here ++ rest) × TakesMore p q here × TakesOfEach ps qs rest
+TakesOfEach (p ∷ ps) (q ∷ qs) more = (here : List Envelope) × (rest : List Envelope) × (more ≡ here ++ rest) × TakesThese p q here × TakesOfEach ps qs rest
 
 -- at one of the queues a look found somebody
 abbrev pub OneIsHeldUp : List TakerQueueSeat → List TakerQueueSeat → Type 0
@@ -27,7 +27,7 @@ OneIsHeldUp (p ∷ ps) (q ∷ qs) = IsHeldUp p q ⊎ OneIsHeldUp ps qs
 
 -- What a sweep of the queues of a closed end comes to. Ok: all are settled, so everything that was put was taken. Still inside: a look found somebody at one of them. What was taken joins what was collected before, queue after queue.
 abbrev pub AreSwept : List TakerQueueSeat → List TakerQueueSeat → List Envelope → List Envelope → Result (Unit {0}) Stop → Type 0
-AreSwept old new before after (Ok done) = (more : List Envelope) × (after ≡ before ++ more) × TakesOfEach old new more × AllByRecursion IsSettled new
+AreSwept old new before after (Ok done) = (more : List Envelope) × (after ≡ before ++ more) × TakesOfEach old new more × AllByRecursion IsQueueSettled new
 AreSwept old new before after (Err stop.StillInside) = (more : List Envelope) × (after ≡ before ++ more) × TakesOfEach old new more × OneIsHeldUp old new
 AreSwept old new before after (Err stop.NoRoom) = (more : List Envelope) × (after ≡ before ++ more) × TakesOfEach old new more
 
@@ -42,7 +42,7 @@ abbrev pub AreSameQueues : List TakerQueueSeat → List TakerQueueSeat → Type 
 AreSameQueues [] [] = Unit {0}
 AreSameQueues [] (q ∷ qs) = ⊥
 AreSameQueues (p ∷ ps) [] = ⊥
-AreSameQueues (p ∷ ps) (q ∷ qs) = ((more : List Envelope) × TakesMore p q more) × AreSameQueues ps qs
+AreSameQueues (p ∷ ps) (q ∷ qs) = ((more : List Envelope) × TakesThese p q more) × AreSameQueues ps qs
 
 -- what was taken more of these queues are the envelopes of this list: by any test, as many pass
 abbrev pub AreTaken : List TakerQueueSeat → List TakerQueueSeat → List Envelope → Type 0
@@ -75,4 +75,4 @@ put_by line q = put_known (slice_get q.at.known line)
 
 -- For each line of these queues: what was taken of all of them, joined, is all that the line has put in them, joined.
 abbrev pub IsWholeChain : List TakerQueueSeat → Type 0
-IsWholeChain qs = (line : ℕ) → AllByRecursion (λ q. line < q.at.lines) qs → by line (got_from qs) ≡ joined (map (put_by line) qs)
+IsWholeChain qs = (line : ℕ) → AllByRecursion (λ q. line < q.at.lines) qs → by line (got_from qs) ≡ all_put (map (put_by line) qs)

@@ -56,7 +56,7 @@ pub record SameGate (old new : TakerQueueSeat) : Type 0 where
   pub closes : new.keeper.at.closes ≡ old.keeper.at.closes
 
 -- the same queue, of which these were taken more
-pub record TakesMore (old new : TakerQueueSeat) (more : List Envelope) : Type 0 where
+pub record TakesThese (old new : TakerQueueSeat) (more : List Envelope) : Type 0 where
   pub queue : new.queue ≡ old.queue
   pub same_gate : SameGate old new
   pub end : new.at.end ≡ old.at.end
@@ -73,6 +73,6 @@ pub record IsHeldUp (old new : TakerQueueSeat) : Type 0 where
   pub found : 0 < new.keeper.at.found
 
 -- All rights of the queue are in hand, and line by line what was taken is all that was put.
-pub record IsSettled (p : TakerQueueSeat) : Type 0 where
+pub record IsQueueSettled (p : TakerQueueSeat) : Type 0 where
   pub collected : p.keeper.at.collected ≡ true
   pub each : (line : ℕ) → line < p.at.lines → (k : PutView) × (slice_get p.at.known line ≡ Some k) × (k.line ≡ line) × (by line p.at.got ≡ k.put)

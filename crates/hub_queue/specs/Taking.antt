@@ -4,9 +4,9 @@ use Rattle.hub_envelope.specs.declared.envelope.Envelope.{Envelope}
 use Rattle.hub_envelope.specs.declared.limits.TheConstants.{MAX_MOVES}
 use Rattle.hub_queue.specs.declared.taker.Took.{Took}
 use Rattle.hub_queue.specs.declared.taker.Took.TheVariants.{Got, Empty, Busy, Again, Disabled, Closed}
-use Rattle.hub_queue.specs.Counting.{Count, counted}
+use Rattle.hub_queue.specs.Counting.{Count, pop_counted}
 use Rattle.hub_queue.specs.PassSteps.{got_more, IsPopped}
-use Rattle.hub_queue.specs.TakerQueues.{TakerQueueSeat, TakesMore, IsHeldUp, IsSettled, IsQueueOf}
+use Rattle.hub_queue.specs.TakerQueues.{TakerQueueSeat, TakesThese, IsHeldUp, IsQueueSettled, IsQueueOf}
 
 -- the gate of the queue is enabled
 abbrev pub IsEnabled : TakerQueueSeat → Type 0
@@ -18,8 +18,8 @@ taken_from p v = record { queue = p.queue; at = got_more p.at v; keeper = p.keep
 
 -- A take at the newest queue of an end. Got: one pop. Empty: one pop, which found none.
 abbrev pub IsTakenAt : TakerQueueSeat → TakerQueueSeat → Count → Count → Took → Type 0
-IsTakenAt old new before after (Got v) = (new ≡ taken_from old v) × IsPopped old.at v × (after ≡ counted before false)
-IsTakenAt old new before after Empty = (new ≡ old) × (after ≡ counted before true)
+IsTakenAt old new before after (Got v) = (new ≡ taken_from old v) × IsPopped old.at v × (after ≡ pop_counted before false)
+IsTakenAt old new before after Empty = (new ≡ old) × (after ≡ pop_counted before true)
 IsTakenAt old new before after Disabled = ⊥
 IsTakenAt old new before after Busy = ⊥
 IsTakenAt old new before after Again = ⊥
@@ -27,9 +27,9 @@ IsTakenAt old new before after Closed = ⊥
 
 -- A take at a retired queue. Got: one pop. Busy: a look of this call found somebody, and then one pop found none. Again: all rights are in hand, and one pop found none, so that line by line what was taken is all that was put.
 abbrev pub IsTakenOff : TakerQueueSeat → TakerQueueSeat → Count → Count → Took → Type 0
-IsTakenOff old new before after (Got v) = TakesMore old new (v ∷ []) × IsPopped old.at v × (after ≡ counted before false)
-IsTakenOff old new before after Busy = IsHeldUp old new × (after ≡ counted before true)
-IsTakenOff old new before after Again = TakesMore old new [] × IsSettled new × (after ≡ counted before true)
+IsTakenOff old new before after (Got v) = TakesThese old new (v ∷ []) × IsPopped old.at v × (after ≡ pop_counted before false)
+IsTakenOff old new before after Busy = IsHeldUp old new × (after ≡ pop_counted before true)
+IsTakenOff old new before after Again = TakesThese old new [] × IsQueueSettled new × (after ≡ pop_counted before true)
 IsTakenOff old new before after Empty = ⊥
 IsTakenOff old new before after Disabled = ⊥
 IsTakenOff old new before after Closed = ⊥

@@ -68,7 +68,7 @@ pub enum Sweep {
     NoRoom(Grave),
 }
 
-// Empties each of the queues, the oldest first, and stops at the first that can't be emptied.
+/// Empties each of the queues, the oldest first, and stops at the first that can't be emptied.
 fn empty_all<R: Wait>(
     rt: &R,
     retired: &mut VecDeque<TakerQueue>,

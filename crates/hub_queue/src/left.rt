@@ -137,7 +137,7 @@ pub struct LeftQueue {
 }
 
 impl Model for LeftQueue {
-    ghost use Rattle.hub_queue.specs.TakerQueues.{TakerQueueSeat, IsSettled};
+    ghost use Rattle.hub_queue.specs.TakerQueues.{TakerQueueSeat, IsQueueSettled};
     ghost use Rattle.hub_queue.specs.Seats.{known_by, take_in};
 
     ghost Value = { TakerQueueSeat };
@@ -148,7 +148,7 @@ impl Model for LeftQueue {
       keeper = q.gate;
     } };
 
-    ghost invariant = { λ q. IsSettled (record {
+    ghost invariant = { λ q. IsQueueSettled (record {
       queue = q.pass.web;
       at = take_in (known_by q.pass);
       keeper = q.gate;

@@ -4,7 +4,7 @@ ghost use Rattle.crossbeam_queue.specs.SegTies.{IsSegPassOf};
 ghost use Rattle.hub_queue.specs.declared.store.PassView.TheVariants.{Puts};
 ghost use Rattle.hub_queue.specs.PassSteps.{refused_more};
 ghost use Rattle.hub_queue.specs.Putting.{IsPut, unnamed};
-ghost use Rattle.hub_queue.specs.Seats.{IsNameOf, known_by, put_in};
+ghost use Rattle.hub_queue.specs.Seats.{IsNameOf, known_by, put_view};
 
 use crate::queue_rule::{CountRefusal, Put};
 use crate::store::{Pass, Store};
@@ -30,18 +30,18 @@ impl Model for LineRight {
     ghost use Rattle.std.specs.Arc.{arc_value};
     ghost use Rattle.crossbeam_queue.specs.SegTies.{IsSegPassOf};
     ghost use Rattle.hub_queue.specs.declared.store.PassView.TheVariants.{Puts};
-    ghost use Rattle.hub_queue.specs.Seats.{LineSeat, known_by, put_in};
+    ghost use Rattle.hub_queue.specs.Seats.{LineSeat, known_by, put_view};
 
     ghost Value = { LineSeat };
 
     ghost view = { λ r. record {
       queue = (arc_value r.store).queue.web;
-      at = put_in (known_by r.pass);
+      at = put_view (known_by r.pass);
     } };
 
     ghost invariant = { λ r. IsSegPassOf (arc_value r.store).queue r.pass
-        × (known_by r.pass ≡ Puts (put_in (known_by r.pass)))
-        × (r.number ≡ length (put_in (known_by r.pass)).put) };
+        × (known_by r.pass ≡ Puts (put_view (known_by r.pass)))
+        × (r.number ≡ length (put_view (known_by r.pass)).put) };
 }
 
 impl Right for LineRight {
@@ -50,7 +50,7 @@ impl Right for LineRight {
     ghost tag = { tag_of };
 }
 
-// The draft that an envelope was made of.
+/// The draft that an envelope was made of.
 fn draft_of(envelope: Envelope) -> Draft
     ensures { result ≡ unnamed envelope }
 {
@@ -72,15 +72,15 @@ fn draft_of(envelope: Envelope) -> Draft
     }
 }
 
-// Counts a push that the queue has refused. Nothing else counts one. It isn't inlined, so that a
-// push that is accepted doesn't pay for it.
+/// Counts a push that the queue has refused. Nothing else counts one. It isn't inlined, so that a
+/// push that is accepted doesn't pay for it.
 #[inline(never)]
 fn count_refusal(store: &Store, pass: &mut Pass)
     requires queue { IsSegPassOf store.now.queue pass.old }
-    requires line { known_by pass.old ≡ Puts (put_in (known_by pass.old)) }
+    requires line { known_by pass.old ≡ Puts (put_view (known_by pass.old)) }
     requires refused { IsRefused pass.old.me.view }
     ensures queue { IsSegPassOf store.now.queue pass.new }
-    ensures counted { known_by pass.new ≡ Puts (refused_more (put_in (known_by pass.old))) }
+    ensures counted { known_by pass.new ≡ Puts (refused_more (put_view (known_by pass.old))) }
 {
     store.queue.another::<CountRefusal>(pass);
 }

@@ -22,7 +22,7 @@ use crate::taker_queue::TakerQueue;
 use hub_bell::Bell;
 use hub_envelope::{EndId, MAX_ENDS, MAX_LINES, OutOfMemory};
 use hub_gate::{Entry, Gate};
-use std::alloc::{AllocError, Global};
+use std::alloc::Global;
 use std::collections::VecDeque;
 use std::marker::Brand;
 use std::sync::Arc;
@@ -76,7 +76,7 @@ impl Ends {
 /// ```
 pub struct Mailbox;
 
-// The posters of all lines, which nobody has used.
+/// The posters of all lines, which nobody has used.
 fn posters_of(alloc: Global, onwards: Vec<Onward>) -> Result<Vec<Poster>, OutOfMemory>
     ensures { IfOk result (λ posters. posters.items ≡ onwards.items) }
 {
@@ -117,7 +117,7 @@ impl Mailbox {
     }
 }
 
-// Cuts the pass of the next line off the taker's. The first cut gives the queue its end and epoch.
+/// Cuts the pass of the next line off the taker's. The first cut gives the queue its end and epoch.
 fn cut_line<N: QueueName>(store: &Store, pass: &mut Pass, end: EndId, epoch: u32) -> Pass
     requires name { (end.0 ≡ N.end) × (epoch ≡ N.epoch) }
     requires queue { IsSegPassOf store.now.queue pass.old }
@@ -130,7 +130,7 @@ fn cut_line<N: QueueName>(store: &Store, pass: &mut Pass, end: EndId, epoch: u32
     store.queue.another::<CutLine<N>>(pass)
 }
 
-// The rights of so many lines, each of which has put nothing.
+/// The rights of so many lines, each of which has put nothing.
 fn cut_lines(
     alloc: Global,
     store: &Arc<Store>,
@@ -138,7 +138,7 @@ fn cut_lines(
     end: EndId,
     epoch: u32,
     lines: u8,
-) -> Result<Vec<LineRight>, AllocError>
+) -> Result<Vec<LineRight>, OutOfMemory>
     requires queue { IsSegPassOf (arc_value store.now).queue pass.old }
     requires fresh { known_by pass.old ≡ first_view }
     ensures queue { IfOk result (λ _. IsSegPassOf (arc_value store.now).queue pass.new) }
@@ -166,7 +166,7 @@ pub(crate) fn open_taker_queue(
     end: EndId,
     epoch: u32,
     lines: u8,
-) -> Result<(TakerQueue, Vec<Entry<LineRight>>), AllocError>
+) -> Result<(TakerQueue, Vec<Entry<LineRight>>), OutOfMemory>
     requires lines { (0 < lines) × (lines ≤ MAX_LINES) }
     ensures { IfOk result (λ p. IsOpenTakerQueue end.0 epoch lines p.0 p.1.items) }
 {
@@ -174,7 +174,7 @@ pub(crate) fn open_taker_queue(
     let store = Arc::new(alloc, Store { queue })?;
     let rights = cut_lines(alloc, &store, &mut pass, end, epoch, lines)?;
     let Ok((keeper, entries)) = Gate::open(alloc, rights) else {
-        return Err(AllocError);
+        return Err(OutOfMemory);
     };
     let queue = TakerQueue {
         store,

@@ -27,8 +27,8 @@ pub enum Meeting {
     Met { put: u64, got: u64 },
 }
 
-// Lends the pass of a line to the taker's for one look at the queue: what was taken of the line is
-// a prefix of what it has put. It says how many were put and taken. Both passes are as they were.
+/// Lends the pass of a line to the taker's for one look at the queue: what was taken of the line is
+/// a prefix of what it has put. It says how many were put and taken. Both passes are as they were.
 fn compare<R: Wait>(
     rt: &R,
     queue: &mut TakerQueue,
@@ -50,7 +50,7 @@ fn compare<R: Wait>(
     (right.number, queue.taken[line.0 as usize])
 }
 
-// Goes in at the gate, compares, and comes out again.
+/// Goes in at the gate, compares, and comes out again.
 fn meet_at<R: Wait>(rt: &R, stand: &mut Stand, queue: &mut TakerQueue) -> Meeting
     requires { (right_of stand.old).queue ≡ queue.old.queue }
     ensures same { queue.new ≡ queue.old }

@@ -5,7 +5,7 @@ ghost use Rattle.std.specs.FinMap as map;
 ghost use Rattle.std.specs.Option.{option_map};
 ghost use Rattle.hub_envelope.specs.declared.limits.TheConstants.{MAX_MOVES};
 ghost use Rattle.hub_queue.specs.Posting.{name_after};
-ghost use Rattle.hub_queue.specs.Standing.{IsNext};
+ghost use Rattle.hub_queue.specs.Standing.{FollowsStand};
 
 use crate::stand::Stand;
 use hub_depot::{Kept, Key, Named, take_in};
@@ -50,7 +50,7 @@ pub(crate) fn next_stand<L: Lends<Kept<Onward>>, R: Wait>(
     name: Key,
 ) -> Option<Stand>
     requires { name.epoch ≤ MAX_MOVES }
-    ensures next { IfSome result (IsNext name) }
+    ensures next { IfSome result (FollowsStand name) }
     ensures found { IfSome (L.shown yard.old) (λ kept. result ≡ map.get kept (name_after name 1)) }
     ensures rest { L.shown yard.new
         ≡ option_map (λ kept. map.remove kept (name_after name 1)) (L.shown yard.old) }

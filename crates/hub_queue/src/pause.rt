@@ -1,7 +1,7 @@
 //! The points of a post, at which a test may hold it up.
 
 ghost use Rattle.std.specs.Prelude.{◌≡◌};
-ghost use Rattle.hub_queue.specs.Counting.{counted};
+ghost use Rattle.hub_queue.specs.Counting.{pop_counted};
 
 use hub_locked::Hears;
 use std::marker::Model;
@@ -83,7 +83,7 @@ impl<L: Ledger> Steps<L> {
 
     /// Counts one pop. It is called where a pop is made, and nowhere else.
     pub(crate) fn tick(&mut self, found_none: bool)
-        ensures { self.new ≡ counted self.old found_none }
+        ensures { self.new ≡ pop_counted self.old found_none }
     {
         self.book.add(&mut self.pops, 1);
         if found_none {

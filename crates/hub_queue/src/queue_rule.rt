@@ -108,9 +108,9 @@ pub struct Compare;
 
 impl Join<PassView> for Compare {
     ghost use Rattle.hub_queue.specs.declared.store.PassView.TheVariants.{Spent};
-    ghost use Rattle.hub_queue.specs.PassSteps.{joined};
+    ghost use Rattle.hub_queue.specs.PassSteps.{joined_pass};
 
-    ghost both = { joined };
+    ghost both = { joined_pass };
 
     ghost spent = { Spent };
 }

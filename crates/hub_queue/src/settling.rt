@@ -11,14 +11,13 @@ use crate::pause::Steps;
 use crate::queue_rule::TakeIn;
 use crate::store::{Pass, Store};
 use crate::taker_queue::TakerQueue;
-use hub_envelope::Envelope;
+use hub_envelope::{Envelope, OutOfMemory};
 use hub_gate::Looked;
-use std::alloc::AllocError;
 use std::marker::Brand;
 use std::sync::Wait;
 use std::sync::ledger::{Blank, Ledger};
 
-// Takes in the passes of all lines, whose rights these are, in order.
+/// Takes in the passes of all lines, whose rights these are, in order.
 fn take_in_all(store: &Store, pass: &mut Pass, mut rights: Vec<LineRight>)
     requires queue { IsSegPassOf store.now.queue pass.old }
     requires taker { known_by pass.old ≡ Takes (take_in (known_by pass.old)) }
@@ -62,7 +61,7 @@ pub(crate) fn collect<L: Ledger, R: Wait>(
     queue: &mut TakerQueue,
     envelopes: &mut Vec<Envelope>,
     blank: Blank,
-) -> Result<(), AllocError>
+) -> Result<(), OutOfMemory>
     requires { (blank.name ≡ L.name) × (blank.parts ≡ L.parts) × (L.parts ≡ 2) }
     ensures { IsCollected queue.old queue.new envelopes.old.items envelopes.new.items result }
 {

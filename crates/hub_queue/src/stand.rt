@@ -103,9 +103,9 @@ pub(crate) enum Tried {
     Turned(Refusal, Draft),
 }
 
-// Puts the draft, leaves, and puts the entry back in its place. Whoever has left an enabled gate
-// rings the bell. It is inlined, and so are `Stand::post` and `LineRight::put`, since drafts and
-// answers are large and each call copies them.
+/// Puts the draft, leaves, and puts the entry back in its place. Whoever has left an enabled gate
+/// rings the bell. It is inlined, and so are `Stand::post` and `LineRight::put`, since drafts and
+/// answers are large and each call copies them.
 #[inline(always)]
 fn post_inside<H: Hears<Point>, R: Wait>(
     rt: &R,
@@ -137,7 +137,7 @@ fn post_inside<H: Hears<Point>, R: Wait>(
 }
 
 impl Stand {
-    // Posts at the queue where the line stands.
+    /// Posts at the queue where the line stands.
     fn try_post<H: Hears<Point>, R: Wait>(&mut self, rt: &R, draft: Draft, heard: &mut H) -> Tried
         ensures tried { IsTried self.old self.new draft result }
         ensures rung { RingsTried self.old self.new result }
@@ -188,8 +188,8 @@ impl Stand {
         }
     }
 
-    // Goes on from where the line was turned. It isn't inlined, so that a post at the queue where
-    // its line stands doesn't pay for it.
+    /// Goes on from where the line was turned. It isn't inlined, so that a post at the queue where
+    /// its line stands doesn't pay for it.
     #[inline(never)]
     fn post_onward<L: Lends<Kept<Onward>>, H: Hears<Point>, R: Wait>(
         &mut self,

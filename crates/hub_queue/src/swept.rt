@@ -31,7 +31,7 @@ impl Model for Swept {
     ghost use Rattle.std.specs.Prelude.{[], ◌∷◌, ◌++◌};
     ghost use Rattle.std.specs.List.{AllByRecursion};
     ghost use Rattle.hub_queue.specs.Graves.{SweptSeat};
-    ghost use Rattle.hub_queue.specs.TakerQueues.{IsSettled};
+    ghost use Rattle.hub_queue.specs.TakerQueues.{IsQueueSettled};
 
     ghost Value = { SweptSeat };
 
@@ -41,7 +41,7 @@ impl Model for Swept {
       queues = s.retired.items ++ s.newest ∷ [];
     } };
 
-    ghost invariant = { λ s. AllByRecursion IsSettled (s.retired.items ++ s.newest ∷ []) };
+    ghost invariant = { λ s. AllByRecursion IsQueueSettled (s.retired.items ++ s.newest ∷ []) };
 }
 
 impl Swept {

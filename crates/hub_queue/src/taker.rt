@@ -98,8 +98,8 @@ impl Model for Taker {
     }) };
 }
 
-// Takes from the oldest of these queues, which are retired, and frees it once it was left. `None`
-// where there is none.
+/// Takes from the oldest of these queues, which are retired, and frees it once it was left. `None`
+/// where there is none.
 fn take_oldest<L: Ledger, R: Wait>(
     rt: &R,
     retired: &mut VecDeque<TakerQueue>,

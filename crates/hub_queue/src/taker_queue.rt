@@ -3,10 +3,10 @@
 ghost use Rattle.std.specs.Prelude.{◌≡◌, is_none, nat_lt};
 ghost use Rattle.crossbeam_queue.specs.SegTies.{IsSegPassOf};
 ghost use Rattle.hub_queue.specs.declared.store.PassView.TheVariants.{Takes};
-ghost use Rattle.hub_queue.specs.Counting.{counted};
+ghost use Rattle.hub_queue.specs.Counting.{pop_counted};
 ghost use Rattle.hub_queue.specs.Popping.{IsPop};
 ghost use Rattle.hub_queue.specs.Seats.{known_by, take_in};
-ghost use Rattle.hub_queue.specs.TakerQueues.{IsSettled, IsShut};
+ghost use Rattle.hub_queue.specs.TakerQueues.{IsQueueSettled, IsShut};
 ghost use Rattle.hub_queue.specs.Settling.{IsQueuePop};
 ghost use Rattle.hub_queue.specs.Adopting.{retired_queue};
 ghost use Rattle.hub_queue.specs.Ending.{closed_queue};
@@ -37,7 +37,7 @@ pub(crate) fn pop<L: Ledger, R: Wait>(
     ensures queue { IsSegPassOf store.now.queue pass.new }
     ensures taker { known_by pass.new ≡ Takes (take_in (known_by pass.new)) }
     ensures popped { IsPop (take_in (known_by pass.old)) (take_in (known_by pass.new)) result }
-    ensures counted { steps.new ≡ counted steps.old (is_none result) }
+    ensures counted { steps.new ≡ pop_counted steps.old (is_none result) }
 {
     let found = store.queue.pop_as::<Take, R>(rt, pass);
     steps.tick(found.is_none());
@@ -130,7 +130,7 @@ impl TakerQueue {
         steps: &mut Steps<L>,
     ) -> Option<Envelope>
         ensures popped { IsQueuePop self.old self.new result }
-        ensures counted { steps.new ≡ counted steps.old (is_none result) }
+        ensures counted { steps.new ≡ pop_counted steps.old (is_none result) }
     {
         let envelope = pop(rt, &self.store, &mut self.pass, steps)?;
         self.taken[envelope.line.0 as usize] += 1;
@@ -166,7 +166,7 @@ impl TakerQueue {
 
     /// What shows the queue, which is done with.
     pub(crate) fn leave(self) -> LeftQueue
-        requires { IsSettled self }
+        requires { IsQueueSettled self }
         ensures { result ≡ self }
     {
         let ShutQueue { pass, gate } = self.into_shut();

@@ -59,7 +59,7 @@ fn is_wanted(took: &Took, wanted: &Wanted, text: &str) -> bool {
     }
 }
 
-// Sweeps, and once more where there was no memory.
+/// Sweeps, and once more where there was no memory.
 fn sweep<R: Wait>(rt: &R, grave: Grave) -> Sweep {
     match grave.sweep(rt) {
         Sweep::NoRoom(grave) => grave.sweep(rt),

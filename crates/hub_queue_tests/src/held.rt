@@ -36,7 +36,7 @@ struct At<'a> {
     held: Mutex<Held<'a>>,
 }
 
-// Does what is to be done. Whether it came to what it is to come to.
+/// Does what is to be done. Whether it came to what it is to come to.
 fn act<R: Wait>(rt: &R, yard: &Depot<Onward>, meanwhile: &Meanwhile, end: &mut End) -> bool {
     match meanwhile {
         Meanwhile::Closes => end.close(),
@@ -61,7 +61,7 @@ impl Pause for At<'_> {
     }
 }
 
-// Posts a text, held up at a point. `None` where what was done meanwhile came to something else.
+/// Posts a text, held up at a point. `None` where what was done meanwhile came to something else.
 fn post_held<R: Wait>(
     rt: &R,
     stage: &mut Stage,
@@ -181,7 +181,7 @@ const ROWS: [Row; 8] = [
     },
 ];
 
-// Whether a post that is held up comes to what the row says.
+/// Whether a post that is held up comes to what the row says.
 fn is_so<R: Wait>(rt: &R, alloc: Global, row: Row) -> bool {
     let mut stage = Stage::open(alloc);
     let is_moved = stage.end.moves(rt, &stage.yard, row.adoptions);

@@ -12,8 +12,6 @@ mod mailboxes;
 #[cfg(test)]
 mod meetings;
 #[cfg(test)]
-mod memory;
-#[cfg(test)]
 mod moves_under_fire;
 #[cfg(test)]
 mod parts;

@@ -1,4 +1,6 @@
-//! Single ends. Most of what is done with one is played from step files, by `hub_player`.
+//! Single ends, also where an allocation is refused: each call is made again then, once it was seen
+//! that all is as it was. Most of what is done with an end is played from step files, by
+//! `hub_player`.
 use crate::end::Wanted;
 use crate::stage::Stage;
 use hub_envelope::{EndId, MAX_MOVES};
@@ -7,7 +9,7 @@ use hub_test_parts::is_message;
 use std::alloc::Global;
 use std::sync::Wait;
 
-// Whether the second and the third envelope of the first queue were discarded, in order.
+/// Whether the second and the third envelope of the first queue were discarded, in order.
 fn are_the_last_two(swept: &Swept) -> bool {
     match swept.envelopes() {
         [second, third] => {
@@ -17,7 +19,7 @@ fn are_the_last_two(swept: &Swept) -> bool {
     }
 }
 
-// Whether what was not taken is discarded, in order.
+/// Whether what was not taken is discarded, in order.
 fn discards_the_rest<R: Wait>(rt: &R, alloc: Global) -> bool {
     let mut stage = Stage::open(alloc);
     let are_put = stage.accepts(rt, "1", 0, 0)
@@ -62,8 +64,8 @@ fn ends_are_drawn_once(rt: HostRuntime) {
     assert!(rt; ends.draw().is_none());
 }
 
-// Whether a taker is behind by three queues after three adoptions, and by none once it has taken
-// what waits there.
+/// Whether a taker is behind by three queues after three adoptions, and by none once it has taken
+/// what waits there.
 fn takes_from_three_adoptions<R: Wait>(rt: &R, alloc: Global) -> bool {
     let mut stage = Stage::open(alloc);
     let is_adopted = stage.fills(rt, 4, 1, "10");
@@ -82,8 +84,9 @@ fn three_adoptions(rt: HostRuntime) {
     assert!(rt; takes_from_three_adoptions(&rt, rt.alloc()));
 }
 
-// Whether an adoption is refused since the yard keeps the name of the second line from the adoption
-// of another end. The name of the first line was taken out before, and is not left there again.
+/// Whether an adoption is refused since the yard keeps the name of the second line from the
+/// adoption of another end. The name of the first line was taken out before, and is not left there
+/// again.
 fn refuses_a_kept_name<R: Wait>(rt: &R, alloc: Global) -> bool {
     let mut stage = Stage::open(alloc);
     stage.reopen(2);
@@ -102,8 +105,8 @@ fn a_name_that_the_yard_keeps_refuses_the_adoption(rt: HostRuntime) {
 
 const LEFT: u32 = 40_000;
 
-// Whether an end is adopted as often as it may be, an envelope waits in each of its queues, and
-// those that were not left are discarded.
+/// Whether an end is adopted as often as it may be, an envelope waits in each of its queues, and
+/// those that were not left are discarded.
 fn moves_as_often_as_it_may<R: Wait>(rt: &R, alloc: Global) -> bool {
     let mut stage = Stage::open(alloc);
     let is_adopted = stage.fills(rt, MAX_MOVES + 1, 1, "10");
@@ -124,4 +127,46 @@ fn moves_as_often_as_it_may<R: Wait>(rt: &R, alloc: Global) -> bool {
 #[test]
 fn as_many_adoptions_as_there_may_be(rt: HostRuntime) {
     assert!(rt; moves_as_often_as_it_may(&rt, rt.alloc()));
+}
+
+#[test]
+fn posts_and_sweeps_whichever_allocation_is_refused(rt: HostRuntime) {
+    assert!(rt; holds(&rt, rt.alloc(), 40, "[1]"));
+}
+
+/// Whether an adoption that was refused for want of memory has left the end as it was: the yard has
+/// nothing, and a post goes to the old queue. It is made again then.
+fn adopts<R: Wait>(rt: &R, stage: &mut Stage) -> bool {
+    match stage.end.adopt(rt, &stage.yard) {
+        Some(Err(AdoptError::OutOfMemory)) => {
+            stage.end.is_behind(0)
+                && !stage.end.empties(rt, &stage.yard)
+                && stage.accepts(rt, "[1]", 0, 0)
+                && stage.end.moves(rt, &stage.yard, 1)
+        }
+        adopted => matches!(adopted, Some(Ok(()))),
+    }
+}
+
+/// Whether an end is moved, and the last envelope of what is swept is that of the new queue.
+fn moves_and_sweeps<R: Wait>(rt: &R, alloc: Global) -> bool {
+    let mut stage = Stage::open(alloc);
+    let is_moved = adopts(rt, &mut stage)
+        && stage.end.is_behind(1)
+        && stage.accepts(rt, "[1]", 1, 0);
+    let is_swept = stage.end.close()
+        && match stage.end.sweep(rt) {
+            Some(swept) => match swept.envelopes().last() {
+                Some(envelope) => envelope.epoch == 1,
+                None => false,
+            },
+            None => false,
+        };
+    drop(stage);
+    is_moved && is_swept
+}
+
+#[test]
+fn moves_and_sweeps_whichever_allocation_is_refused(rt: HostRuntime) {
+    assert!(rt; moves_and_sweeps(&rt, rt.alloc()));
 }

@@ -11,7 +11,7 @@ use std::process::Abort;
 use std::sync::Wait;
 use std::sync::ledger::{Blank, Ledger};
 
-// A mailbox of this end with one line.
+/// A mailbox of this end with one line.
 fn opened<R: Abort>(rt: &R, alloc: Global, end: EndId) -> (Taker, Poster)
     ensures together { AreTogether result.1 result.0 }
     ensures ends { (result.1.name.end ≡ end) × (result.0.end ≡ end.0) }
@@ -29,7 +29,7 @@ fn opened<R: Abort>(rt: &R, alloc: Global, end: EndId) -> (Taker, Poster)
     (taker, poster)
 }
 
-// Posts one draft at the taker's end, and it is accepted.
+/// Posts one draft at the taker's end, and it is accepted.
 fn post_one<R: Abort + Wait>(
     rt: &R,
     alloc: Global,
@@ -55,7 +55,7 @@ fn start(taker: &mut Taker, poster: &Poster)
     taker.start();
 }
 
-// Takes one envelope of the poster's end.
+/// Takes one envelope of the poster's end.
 fn take_one<L: Ledger, R: Abort + Wait>(
     rt: &R,
     taker: &mut Taker,
@@ -72,7 +72,7 @@ fn take_one<L: Ledger, R: Abort + Wait>(
     }
 }
 
-// Posts three drafts and takes two of them.
+/// Posts three drafts and takes two of them.
 fn meets<L: Ledger, R: Abort + Wait>(
     rt: &R,
     alloc: Global,
@@ -121,7 +121,7 @@ fn strangers_do_not_meet(rt: HostRuntime) {
     drop(stranger);
 }
 
-// Moves the end on.
+/// Moves the end on.
 fn adopt_one<R: Abort + Wait>(
     rt: &R,
     alloc: Global,
@@ -145,8 +145,8 @@ fn adopt_one<R: Abort + Wait>(
     }
 }
 
-// Posts from the old queue, where the poster is turned, and so goes on to a later queue than the
-// taker's.
+/// Posts from the old queue, where the poster is turned, and so goes on to a later queue than the
+/// taker's.
 fn goes_on<R: Abort + Wait>(
     rt: &R,
     alloc: Global,

@@ -67,7 +67,7 @@ fn name_of(envelope: &Envelope) -> Option<Name> {
 }
 
 impl Fire {
-    // Posts a body until it is accepted, while posts are left.
+    /// Posts a body until it is accepted, while posts are left.
     fn post<P: Pause, R: Wait>(
         &mut self,
         rt: &R,
@@ -87,7 +87,7 @@ impl Fire {
         None
     }
 
-    // Posts the bodies 0, 1, 2 and so on, the first of them held until the end was adopted.
+    /// Posts the bodies 0, 1, 2 and so on, the first of them held until the end was adopted.
     fn post_all<P: Pause, R: Wait>(
         &mut self,
         rt: &R,
@@ -103,7 +103,7 @@ impl Fire {
 }
 
 impl Turn {
-    // Takes once, and keeps the name of what was taken.
+    /// Takes once, and keeps the name of what was taken.
     fn take<R: Wait>(&mut self, rt: &R) -> Option<()> {
         match self.end.take(rt) {
             Some(Took::Got(envelope)) => self.taken.push(name_of(&envelope)?).ok(),
@@ -111,7 +111,7 @@ impl Turn {
         }
     }
 
-    // Takes so often, or until all bodies were taken.
+    /// Takes so often, or until all bodies were taken.
     fn take_some<R: Wait>(&mut self, rt: &R, takes: u32) -> Option<()> {
         for _ in 0..takes {
             if self.taken.len() as u64 == BODIES {
@@ -122,8 +122,8 @@ impl Turn {
         Some(())
     }
 
-    // Makes a turn where it is due: the end is adopted and started, and its taker takes. Where that
-    // can't be made, none are due any more. Whether the last one was made, once none is due.
+    /// Makes a turn where it is due: the end is adopted and started, and its taker takes. Where
+    /// that can't be made, none are due any more. Whether the last one was made, once none is due.
     fn next<R: Wait>(&mut self, rt: &R, yard: &Depot<Onward>, mine: u32) -> Option<bool> {
         if self.moves >= ADOPTIONS {
             return Some(true);
@@ -144,7 +144,7 @@ impl Turn {
     }
 }
 
-// Takes every second turn until all are done. Where one can't be made, all are done.
+/// Takes every second turn until all are done. Where one can't be made, all are done.
 fn take_turns<R: Wait>(rt: &R, yard: &Depot<Onward>, turn: &Mutex<Turn>, mine: u32) -> bool {
     for _ in rt.forever() {
         let next = turn.lock(rt).next(rt, yard, mine);
@@ -156,7 +156,7 @@ fn take_turns<R: Wait>(rt: &R, yard: &Depot<Onward>, turn: &Mutex<Turn>, mine: u
     false
 }
 
-// Two threads take turns, and one fires. Whether each of them came to its end.
+/// Two threads take turns, and one fires. Whether each of them came to its end.
 fn race<R: Wait + Threads + Sync>(
     rt: &R,
     alloc: Global,
@@ -178,7 +178,7 @@ fn race<R: Wait + Threads + Sync>(
     are_all_so(ended)
 }
 
-// A taker is handed to and fro while a line posts. At least its first post is turned.
+/// A taker is handed to and fro while a line posts. At least its first post is turned.
 #[test]
 fn moves_under_fire(rt: HostRuntime) {
     let alloc = rt.alloc();

@@ -12,7 +12,7 @@ const EACH: u64 = 1000;
 
 const LINES: u8 = 4;
 
-// Posts so many drafts. Whether all were accepted, in order.
+/// Posts so many drafts. Whether all were accepted, in order.
 fn post_all<R: Wait>(rt: &R, alloc: Global, yard: &Depot<Onward>, mut poster: Poster) -> bool {
     let mut in_order = true;
     for number in 0..EACH {
@@ -22,7 +22,7 @@ fn post_all<R: Wait>(rt: &R, alloc: Global, yard: &Depot<Onward>, mut poster: Po
     in_order
 }
 
-// Whether this envelope has its line's next number.
+/// Whether this envelope has its line's next number.
 fn is_next(envelope: &Envelope, next: &mut [u64; 4]) -> bool {
     let line = envelope.line.0 as usize;
     if line >= 4 || envelope.number != next[line] {
@@ -32,7 +32,7 @@ fn is_next(envelope: &Envelope, next: &mut [u64; 4]) -> bool {
     true
 }
 
-// Takes what all lines post. Whether the numbers of each came in order, and nothing came after.
+/// Takes what all lines post. Whether the numbers of each came in order, and nothing came after.
 fn take_all<R: Wait>(rt: &R, taker: &mut Taker) -> bool {
     let mut next = [0u64; 4];
     let mut left = EACH * LINES as u64;
@@ -54,8 +54,8 @@ fn take_all<R: Wait>(rt: &R, taker: &mut Taker) -> bool {
     false
 }
 
-// One thread takes, and each other one posts over a line of its own. Whether all that was posted
-// was accepted and taken, in order.
+/// One thread takes, and each other one posts over a line of its own. Whether all that was posted
+/// was accepted and taken, in order.
 fn run<R: Wait + Threads + Sync>(
     rt: &R,
     alloc: Global,

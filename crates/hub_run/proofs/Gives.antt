@@ -11,10 +11,10 @@ use Rattle.hub_loop.specs.Adopting.{HoldsMore}
 use Rattle.hub_loop.specs.Ending.{is_held}
 use Rattle.hub_loop.specs.Holding.{end_held}
 use Rattle.hub_loop.specs.declared.held.Held.{Held}
-use Rattle.hub_script.specs.Contents.{Contents, agents, channels, members}
+use Rattle.hub_script.specs.Contents.{Contents, declared_agents, channels, members}
 use Rattle.hub_script.specs.Known.{port_count}
-use Rattle.hub_script.specs.declared.declaration.DeclaredChannel.{DeclaredChannel}
-use Rattle.hub_script.specs.declared.declaration.DeclaredMember.{DeclaredMember}
+use Rattle.hub_script.specs.declared.script.DeclaredChannel.{DeclaredChannel}
+use Rattle.hub_script.specs.declared.script.DeclaredMember.{DeclaredMember}
 use Rattle.hub_agent.specs.Agents.{AgentState, KeepsButEnds}
 use Rattle.hub_agent.specs.Given.{IsGiven, given, member_at, members_from, members_given, port_at, ports_from, ports_given, queue_given, where_at}
 use Rattle.hub_run.specs.Giving.{AreGiven, Gives, GivesEnds, HasNothing, HaveNothing}
@@ -175,17 +175,17 @@ given_step : (e k : ℕ) (at : AgentId) (ends : List EndId) (is_here : Bool) →
 given_step e k at ends is_here is = ap (λ b. times e (if b then ends else [])) is
 
 -- one agent holds one end more
-gives_set : (agents : List AgentState) (at : AgentId) (h : Held) (old now : AgentState) → at.0 < length agents → ((d : AgentState) → old ≡ get_or agents at.0 d) → HoldsMore old.ends now.ends h → KeepsButEnds old now
-    → GivesEnds at (option_to_list (end_held h)) agents (slice_set agents at.0 now)
-gives_set agents at h old now inside was more kept = (
-  length-set agents at.0 now,
+gives_set : (declared_agents : List AgentState) (at : AgentId) (h : Held) (old now : AgentState) → at.0 < length declared_agents → ((d : AgentState) → old ≡ get_or declared_agents at.0 d) → HoldsMore old.ends now.ends h → KeepsButEnds old now
+    → GivesEnds at (option_to_list (end_held h)) declared_agents (slice_set declared_agents at.0 now)
+gives_set declared_agents at h old now inside was more kept = (
+  length-set declared_agents at.0 now,
   λ k f below.
       ⊎_elim
       (λ is.
       let here : (at.0 == k) ≡ true = search rules in
-      let new_is : get_or (slice_set agents at.0 now) k f ≡ now = ap (λ j. get_or (slice_set agents at.0 now) j f) is ∙ get_or-set_same agents at.0 now f inside in
-      let old_is : old ≡ get_or agents k f = was f ∙ ap (λ j. get_or agents j f) (sym is) in (
-        subst (KeepsButEnds (get_or agents k f)) (sym new_is) (subst (λ (a : AgentState). KeepsButEnds a now) old_is kept),
+      let new_is : get_or (slice_set declared_agents at.0 now) k f ≡ now = ap (λ j. get_or (slice_set declared_agents at.0 now) j f) is ∙ get_or-set_same declared_agents at.0 now f inside in
+      let old_is : old ≡ get_or declared_agents k f = was f ∙ ap (λ j. get_or declared_agents j f) (sym is) in (
+        subst (KeepsButEnds (get_or declared_agents k f)) (sym new_is) (subst (λ (a : AgentState). KeepsButEnds a now) old_is kept),
         λ e.
             let a = ap (λ (x : AgentState). has x e) new_is in
             let b = ap (λ (x : AgentState). has x e) old_is in
@@ -196,8 +196,8 @@ gives_set agents at h old now inside was more kept = (
       ))
       (λ differs.
       let away : (at.0 == k) ≡ false = search rules in
-      let same = get_or-set_other agents at.0 k now f differs in (
-        subst (KeepsButEnds (get_or agents k f)) (sym same) refl,
+      let same = get_or-set_other declared_agents at.0 k now f differs in (
+        subst (KeepsButEnds (get_or declared_agents k f)) (sym same) refl,
         λ e.
             let a = ap (λ (x : AgentState). has x e) same in
             let g = given_step e k at (option_to_list (end_held h)) false away in
@@ -206,12 +206,12 @@ gives_set agents at h old now inside was more kept = (
       (cases_eq k at.0),
 )
 
-pub gives_one : {X E : Type 0} (result : Result X E) (agents : List AgentState) (at : AgentId) (place : ℕ) (h : Held) (old now : AgentState) → place ≡ at.0 → place < length agents → ((d : AgentState) → old ≡ get_or agents place d)
-    → KeepsButEnds old now → OnOk result (HoldsMore old.ends now.ends h) → OnOk result (GivesEnds at (option_to_list (end_held h)) agents (slice_set agents place now))
-gives_one (Ok x) agents at place h old now is inside was kept more =
-    subst (λ n. GivesEnds at (option_to_list (end_held h)) agents (slice_set agents n now)) (sym is)
-    (gives_set agents at h old now (subst (λ n. n < length agents) is inside) (subst (λ n. (d : AgentState) → old ≡ get_or agents n d) is was) more kept)
-gives_one (Err x) agents at place h old now is inside was kept more = tt
+pub gives_one : {X E : Type 0} (result : Result X E) (declared_agents : List AgentState) (at : AgentId) (place : ℕ) (h : Held) (old now : AgentState) → place ≡ at.0 → place < length declared_agents → ((d : AgentState) → old ≡ get_or declared_agents place d)
+    → KeepsButEnds old now → OnOk result (HoldsMore old.ends now.ends h) → OnOk result (GivesEnds at (option_to_list (end_held h)) declared_agents (slice_set declared_agents place now))
+gives_one (Ok x) declared_agents at place h old now is inside was kept more =
+    subst (λ n. GivesEnds at (option_to_list (end_held h)) declared_agents (slice_set declared_agents n now)) (sym is)
+    (gives_set declared_agents at h old now (subst (λ n. n < length declared_agents) is inside) (subst (λ n. (d : AgentState) → old ≡ get_or declared_agents n d) is was) more kept)
+gives_one (Err x) declared_agents at place h old now is inside was kept more = tt
 
 -- it is the end of that number
 pub gives_numbered : {X E : Type 0} (result : Result X E) (at : AgentId) (h : Held) (end : EndId) (old new : List AgentState) → end_held h ≡ Some end
@@ -244,7 +244,7 @@ one_more xs done x inside is = let next : done + 1 ≡ suc done = omega arith in
 
 -- the ports of one more channel
 pub ports_next : (script : Contents) (done drawn : ℕ) (c : DeclaredChannel) (old mid new : List AgentState) → done < length (channels script) → c ≡ get_or (channels script) done c
-    → drawn ≡ length (agents script) + 2 * done → Gives (λ k. ports_from script k 0 (take done (channels script))) old mid
+    → drawn ≡ length (declared_agents script) + 2 * done → Gives (λ k. ports_from script k 0 (take done (channels script))) old mid
     → GivesEnds c.at (record { 0 = drawn } ∷ record { 0 = drawn + 1 } ∷ []) mid new → Gives (λ k. ports_from script k 0 (take (done + 1) (channels script))) old new
 ports_next script done drawn c old mid new inside is at first one =
     let all = channels script in
@@ -256,12 +256,12 @@ ports_next script done drawn c old mid new inside is at first one =
 
 -- one more member
 pub members_next : (script : Contents) (done drawn : ℕ) (m : DeclaredMember) (old mid new : List AgentState) → done < length (members script) → m ≡ get_or (members script) done m
-    → drawn ≡ length (agents script) + port_count script + done → Gives (λ k. members_from script k 0 (take done (members script))) old mid
+    → drawn ≡ length (declared_agents script) + port_count script + done → Gives (λ k. members_from script k 0 (take done (members script))) old mid
     → GivesEnds m.at (record { 0 = drawn } ∷ []) mid new → Gives (λ k. members_from script k 0 (take (done + 1) (members script))) old new
 members_next script done drawn m old mid new inside is at first one =
     let all = members script in
     let len : length (take done all) ≡ done = length-take-le done all (omega (arith, inside)) in
-    let place : drawn ≡ length (agents script) + port_count script + (0 + length (take done all)) = omega (arith, at, len) in
+    let place : drawn ≡ length (declared_agents script) + port_count script + (0 + length (take done all)) = omega (arith, at, len) in
     gives_both (λ k. members_from script k 0 (take done all)) (λ k. where_at k m.at (record { 0 = drawn } ∷ [])) (λ k. members_from script k 0 (take (done + 1) all)) old mid new (λ k e.
     let more = ap (λ ms. times e (members_from script k 0 ms)) (one_more all done m inside is) ∙ members_more script k e 0 (take done all) m in
     more ∙ ap (λ n. times e (members_from script k 0 (take done all)) + times e (where_at k m.at (record { 0 = n } ∷ []))) (sym place)) first one

@@ -9,14 +9,14 @@ use Rattle.hub_agent.specs.Entries.{AreLoggedFor}
 use Rattle.hub_agent.proofs.Messages.{entries_put}
 use Rattle.hub_agent.proofs.OneByOne.{no_more}
 use Rattle.hub_envelope.specs.declared.ids.AgentId.{AgentId}
-use Rattle.hub_script.specs.Contents.{Contents, actions, agents}
+use Rattle.hub_script.specs.Contents.{Contents, actions, declared_agents}
 use Rattle.hub_script.specs.declared.action.ActionKind.{ActionKind}
 use Rattle.hub_trace.specs.Accepted.{AgentLog}
 use Rattle.hub_run.specs.Runs.{AreLogsFor, AreRunsFor, IsLogFor}
 use Rattle.hub_run.specs.Threads.{AreInOrder}
 
 -- as many logs as agents, each at its agent's place
-pub runs_for : (script : Contents) (logs : List AgentLog) (acted : List Acted) → length logs ≡ length (agents script) → length acted ≡ length (agents script) → AreInOrder script logs acted → AreRunsFor script logs acted
+pub runs_for : (script : Contents) (logs : List AgentLog) (acted : List Acted) → length logs ≡ length (declared_agents script) → length acted ≡ length (declared_agents script) → AreInOrder script logs acted → AreRunsFor script logs acted
 runs_for script logs acted as_many all in_order = record {
   count = as_many;
   all = all;

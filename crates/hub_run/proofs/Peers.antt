@@ -7,7 +7,7 @@ use Rattle.std.proofs.Math.Seq.{get_or-append_seam}
 use Rattle.std.specs.Prelude.{option_to_list, AllPairs}
 use Rattle.hub_life.specs.OrderSeat.{OrderSeat, new_seat}
 use Rattle.std.proofs.Math.Seq.{take-suc}
-use Rattle.hub_run.specs.Seats.{AllGet, AreSeated, Gets, IsNewSeat, orders_of}
+use Rattle.hub_run.specs.Seats.{AllGet, AreSeated, GetsPeer, IsNewSeat, orders_of}
 use Rattle.hub_agent.specs.declared.opening.Seat.{Seat}
 
 pub front_of : {X : Type 0} (P : X → Type 0) (xs ys all : List X) → all ≡ xs ++ ys → All P all → All P xs
@@ -22,16 +22,16 @@ last_of P xs all popped x is some holds =
     subst P (ap (λ l. get_or l (length xs) x) seam ∙ get_or-append_seam xs x [] x) (holds (length xs) x there)
 
 -- one seat more got it
-pub gets_more : (order : OrderSeat) (before seats : List Seat) (place : ℕ) (now r : Seat) → length seats ≡ length before → place < length seats → ((k : ℕ) (d : Seat) → k < place → Gets order (get_or before k d) (get_or seats k d))
-    → ((k : ℕ) (d : Seat) → place ≤ k → get_or seats k d ≡ get_or before k d) → Gets order (get_or seats place r) now → (k : ℕ) (d : Seat) → k < place + 1 → Gets order (get_or before k d) (get_or (slice_set seats place now) k d)
+pub gets_more : (order : OrderSeat) (before seats : List Seat) (place : ℕ) (now r : Seat) → length seats ≡ length before → place < length seats → ((k : ℕ) (d : Seat) → k < place → GetsPeer order (get_or before k d) (get_or seats k d))
+    → ((k : ℕ) (d : Seat) → place ≤ k → get_or seats k d ≡ get_or before k d) → GetsPeer order (get_or seats place r) now → (k : ℕ) (d : Seat) → k < place + 1 → GetsPeer order (get_or before k d) (get_or (slice_set seats place now) k d)
 gets_more order before seats place now r count inside got same here k d below =
     ⊎_elim
-    (λ low. subst (Gets order (get_or before k d)) (sym (get_or-set_other seats place k now d (λ is. absurd (omega (arith, low, is))))) (got k d low))
+    (λ low. subst (GetsPeer order (get_or before k d)) (sym (get_or-set_other seats place k now d (λ is. absurd (omega (arith, low, is))))) (got k d low))
     (λ high.
     let is : place ≡ k = omega (arith, high, below) in
-    subst (λ j. Gets order (get_or before j d) (get_or (slice_set seats place now) j d)) is
-    (subst (Gets order (get_or before place d)) (sym (get_or-set_same seats place now d inside))
-    (subst (λ (s : Seat). Gets order s now) (get_or_default seats place r d inside ∙ same place d (omega arith)) here)))
+    subst (λ j. GetsPeer order (get_or before j d) (get_or (slice_set seats place now) j d)) is
+    (subst (GetsPeer order (get_or before place d)) (sym (get_or-set_same seats place now d inside))
+    (subst (λ (s : Seat). GetsPeer order s now) (get_or_default seats place r d inside ∙ same place d (omega arith)) here)))
     (cases_lt k place)
 
 -- those before the last two are at the word of the last but one

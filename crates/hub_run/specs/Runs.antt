@@ -1,7 +1,7 @@
 -- What the logs of a run owe to its script: how many there are, whose each is, and what is written in it.
 use Rattle.std.specs.Prelude.{◌≡◌, ℕ, List, length, Some, slice_get}
 use Rattle.hub_envelope.specs.declared.ids.AgentId.{AgentId}
-use Rattle.hub_script.specs.Contents.{Contents, actions, agents}
+use Rattle.hub_script.specs.Contents.{Contents, actions, declared_agents}
 use Rattle.hub_agent.specs.Doing.{actions_of}
 use Rattle.hub_agent.specs.declared.actor.Acted.{Acted}
 use Rattle.hub_trace.specs.Accepted.{AgentLog}
@@ -12,8 +12,8 @@ use Rattle.hub_agent.specs.Posts.{messages_put}
 
 -- one log for each agent of the script and how far the agent came, in the order of the agents
 pub record AreRunsFor (script : Contents) (logs : List AgentLog) (acted : List Acted) : Type 0 where
-  pub count : length logs ≡ length (agents script)
-  pub all : length acted ≡ length (agents script)
+  pub count : length logs ≡ length (declared_agents script)
+  pub all : length acted ≡ length (declared_agents script)
   pub each : (number : ℕ) (log : AgentLog) (a : Acted) → slice_get logs number ≡ Some log → slice_get acted number ≡ Some a
       → IsRunFor script (record { 0 = number }) log a
 
@@ -27,5 +27,5 @@ pub record IsLogFor (script : Contents) (agent : AgentId) (log : AgentLog) : Typ
 
 -- one log for each agent of the script, in the order of the agents
 pub record AreLogsFor (script : Contents) (logs : List AgentLog) : Type 0 where
-  pub count : length logs ≡ length (agents script)
+  pub count : length logs ≡ length (declared_agents script)
   pub each : (number : ℕ) (log : AgentLog) → slice_get logs number ≡ Some log → IsLogFor script (record { 0 = number }) log

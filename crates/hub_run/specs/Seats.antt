@@ -10,11 +10,11 @@ abbrev pub orders_of : List Peer → List OrderSeat
 orders_of peers = map (λ peer. peer.order) peers
 
 -- one more peer, with this seat at its order
-abbrev pub Gets : OrderSeat → Seat → Seat → Type 0
-Gets order old new = (new ≡ record old { peers = new.peers }) × (orders_of new.peers.items ≡ orders_of old.peers.items ++ order ∷ [])
+abbrev pub GetsPeer : OrderSeat → Seat → Seat → Type 0
+GetsPeer order old new = (new ≡ record old { peers = new.peers }) × (orders_of new.peers.items ≡ orders_of old.peers.items ++ order ∷ [])
 
 abbrev pub AllGet : OrderSeat → List Seat → List Seat → Type 0
-AllGet order old new = (length new ≡ length old) × ((k : ℕ) (d : Seat) → k < length old → Gets order (get_or old k d) (get_or new k d))
+AllGet order old new = (length new ≡ length old) × ((k : ℕ) (d : Seat) → k < length old → GetsPeer order (get_or old k d) (get_or new k d))
 
 -- what the agent of this number is made of: two seats at one word, at which nothing was done, and no peers yet
 pub record IsNewSeat (number : ℕ) (s : Seat) : Type 0 where
@@ -24,7 +24,7 @@ pub record IsNewSeat (number : ℕ) (s : Seat) : Type 0 where
   pub peers : s.peers.items ≡ []
 
 -- the same, with these seats at the orders of its peers
-pub record IsSeatOf (orders : List OrderSeat) (number : ℕ) (s : Seat) : Type 0 where
+pub record IsOrderSeatOf (orders : List OrderSeat) (number : ℕ) (s : Seat) : Type 0 where
   pub number_is : s.number.0 ≡ number
   pub for_agent : s.for_agent ≡ new_seat s.for_agent.word
   pub for_loop : s.for_loop ≡ s.for_agent
@@ -32,7 +32,7 @@ pub record IsSeatOf (orders : List OrderSeat) (number : ℕ) (s : Seat) : Type 0
 
 -- the seats of agents 0, 1, .., each of which has a seat at the order of each agent, by number
 abbrev pub AreSeated : List Seat → Type 0
-AreSeated all = (k : ℕ) (d : Seat) → k < length all → IsSeatOf (map (λ s. s.for_agent) all) k (get_or all k d)
+AreSeated all = (k : ℕ) (d : Seat) → k < length all → IsOrderSeatOf (map (λ s. s.for_agent) all) k (get_or all k d)
 
 -- The agent has a seat of its own at its word, and of each of these agents, by number, a seat at that agent's word. At none was
 -- anything done yet.

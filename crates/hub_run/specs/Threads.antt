@@ -10,13 +10,13 @@ use Rattle.hub_run.specs.declared.run.Part.{Part}
 use Rattle.hub_agent.specs.Acting.{IsRunFor}
 
 -- the handle of an agent's thread
-abbrev pub Handle : Type 0
-Handle = PromisedHandle (Result AgentRun AllocError) Part
+abbrev pub AgentThread : Type 0
+AgentThread = PromisedHandle (Result AgentRun AllocError) Part
 
 -- these are the handles of the agents 0, 1, .. of the script, in order
-pub record ArePromised (script : Contents) (handles : List Handle) : Type 0 where
-  pub numbers : (k : ℕ) (d : Handle) → k < length handles → (get_or handles k d).promise.number.0 ≡ k
-  pub scripts : (k : ℕ) (d : Handle) → k < length handles → (get_or handles k d).promise.script.now ≡ script
+pub record ArePromised (script : Contents) (handles : List AgentThread) : Type 0 where
+  pub numbers : (k : ℕ) (d : AgentThread) → k < length handles → (get_or handles k d).promise.number.0 ≡ k
+  pub scripts : (k : ℕ) (d : AgentThread) → k < length handles → (get_or handles k d).promise.script.now ≡ script
 
 -- these came of the agents 0, 1, .. of the script, in order
 abbrev pub AreInOrder : Contents → List AgentLog → List Acted → Type 0

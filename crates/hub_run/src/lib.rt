@@ -6,7 +6,6 @@
 //! none waits for it.
 #![tactic(auto)]
 
-mod growing;
 mod making;
 mod run;
 

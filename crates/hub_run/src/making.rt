@@ -15,18 +15,21 @@ ghost use Rattle.std.specs.Prelude.{
   vec_len,
   IfOk,
   OnOk,
+  ◌++◌,
+  ◌<◌,
+  ℕ,
+  get_or,
 };
 ghost use Rattle.hub_loop.specs.Holding.{end_held};
 ghost use Rattle.hub_agent.specs.Given.{members_given, ports_given, queue_given};
 ghost use Rattle.hub_run.specs.Giving.{AreGiven, Gives, GivesEnds, HaveNothing};
 ghost use Rattle.hub_life.specs.OrderSeat.{OrderSeat};
 ghost use Rattle.hub_run.specs.Seats.{AllGet, AreAllSeated, AreSeated, IsNewSeat};
-ghost use Rattle.hub_script.specs.Contents.{agents};
+ghost use Rattle.hub_script.specs.Contents.{declared_agents};
 ghost use Rattle.hub_script.specs.Known.{port_count};
 ghost use Rattle.hub_envelope.specs.declared.limits.TheConstants.{MAX_AGENTS};
 ghost use Rattle.hub_trace.specs.declared.limits.TheConstants.{MAX_AGENT};
 
-use crate::growing::push;
 use hub_agent::{Agent, Peer, Seat, Shared};
 use hub_broadcast::{Roster, SharedRoster};
 use hub_clients::Directory;
@@ -72,7 +75,7 @@ impl<'s, C: Checkpoint> Drop for Made<'s, C> {
     }
 }
 
-// Gives each agent a seat at the word of one more agent, which the bell wakes.
+/// Gives each agent a seat at the word of one more agent, which the bell wakes.
 fn add_peer(seats: &mut [Seat], mut orders: Vec<Order>, bell: &Bell) -> Result<(), OutOfMemory>
     ensures { OnOk result ((seat : OrderSeat) → All (λ order. order ≡ seat) orders.items
         → AllGet seat seats.old seats.new) }
@@ -87,8 +90,8 @@ fn add_peer(seats: &mut [Seat], mut orders: Vec<Order>, bell: &Bell) -> Result<(
     Ok(())
 }
 
-// What an agent is made of, with no peers yet, its bell, and a seat at its order's word for each of
-// so many agents.
+/// What an agent is made of, with no peers yet, its bell, and a seat at its order's word for each
+/// of so many agents.
 fn open_seat(
     alloc: Global,
     number: AgentId,
@@ -138,7 +141,7 @@ impl Seats {
     }
 }
 
-// What wakes the agent of that number.
+/// What wakes the agent of that number.
 fn bell_of(bells: &[Bell], agent: AgentId) -> Result<Bell, OutOfMemory> {
     match bells.get(usize::from(agent.0)) {
         Some(bell) => bell.clone(),
@@ -146,7 +149,7 @@ fn bell_of(bells: &[Bell], agent: AgentId) -> Result<Bell, OutOfMemory> {
     }
 }
 
-// Makes the queue of the agent of that number and kind, under the next number of an end.
+/// Makes the queue of the agent of that number and kind, under the next number of an end.
 fn make_queue<R: Wait>(
     rt: &R,
     directory: &Directory,
@@ -171,7 +174,7 @@ fn make_queue<R: Wait>(
     }
 }
 
-// Makes a channel, both of whose ports the agent of that number is to hold.
+/// Makes a channel, both of whose ports the agent of that number is to hold.
 fn make_channel(
     alloc: Global,
     ends: &mut Ends,
@@ -191,7 +194,7 @@ fn make_channel(
     }
 }
 
-// Makes a broadcast member, of the origin of its agent.
+/// Makes a broadcast member, of the origin of its agent.
 fn make_member<R: Wait>(
     alloc: Global,
     rt: &R,
@@ -229,8 +232,8 @@ impl<'s, C: Checkpoint> Made<'s, C> {
         agents
     }
 
-    // Gives the agent of that number an end that it holds before the run. There is one, since a
-    // script names no other; were there none, an error is better than ends under other numbers.
+    /// Gives the agent of that number an end that it holds before the run. There is one, since a
+    /// script names no other; were there none, an error is better than ends under other numbers.
     fn give(&mut self, number: AgentId, held: Held) -> Result<(), OutOfMemory>
         ensures given { OnOk result (GivesEnds number (option_to_list (end_held held))
             self.old.agents.items self.new.agents.items) }
@@ -242,7 +245,7 @@ impl<'s, C: Checkpoint> Made<'s, C> {
         }
     }
 
-    // The agents, which hold nothing yet.
+    /// The agents, which hold nothing yet.
     fn open(
         alloc: Global,
         shared: &'s Shared,
@@ -250,7 +253,7 @@ impl<'s, C: Checkpoint> Made<'s, C> {
         script: &Script,
         checkpoint: &'s C,
     ) -> Result<Made<'s, C>, OutOfMemory>
-        ensures len { IfOk result (λ made. vec_len made.agents ≡ length (agents script.now)) }
+        ensures len { IfOk result (λ made. vec_len made.agents ≡ length (declared_agents script.now)) }
         ensures nothing { IfOk result (λ made. HaveNothing made.agents.items) }
         ensures seated { IfOk result (λ made. AreAllSeated made.agents.items) }
         ensures drawn { IfOk result (λ made. made.ends.drawn ≡ 0) }
@@ -270,18 +273,18 @@ impl<'s, C: Checkpoint> Made<'s, C> {
         })
     }
 
-    // Gives each agent its queue.
+    /// Gives each agent its queue.
     fn add_queues<R: Wait>(
         &mut self,
         rt: &R,
         shared: &Shared,
         script: &Script,
     ) -> Result<(), OutOfMemory>
-        requires len { vec_len self.old.agents ≡ length (agents script.now) }
+        requires len { vec_len self.old.agents ≡ length (declared_agents script.now) }
         requires drawn { self.old.ends.drawn ≡ 0 }
         ensures given { OnOk result
             (Gives queue_given self.old.agents.items self.new.agents.items) }
-        ensures drawn { OnOk result (self.new.ends.drawn ≡ length (agents script.now)) }
+        ensures drawn { OnOk result (self.new.ends.drawn ≡ length (declared_agents script.now)) }
     {
         for (place, declared) in script.agents().iter().enumerate() {
             let number = AgentId(place as u8);
@@ -292,13 +295,13 @@ impl<'s, C: Checkpoint> Made<'s, C> {
         Ok(())
     }
 
-    // Makes the channels, both of whose ports go to one agent.
+    /// Makes the channels, both of whose ports go to one agent.
     fn add_channels(&mut self, alloc: Global, script: &Script) -> Result<(), OutOfMemory>
-        requires { self.old.ends.drawn ≡ length (agents script.now) }
+        requires { self.old.ends.drawn ≡ length (declared_agents script.now) }
         ensures given { OnOk result (Gives (ports_given script.now)
             self.old.agents.items self.new.agents.items) }
         ensures drawn { OnOk result (self.new.ends.drawn
-            ≡ length (agents script.now) + port_count script.now) }
+            ≡ length (declared_agents script.now) + port_count script.now) }
     {
         for declared in script.channels() {
             let (port, other) = make_channel(alloc, &mut self.ends, &self.bells, declared.at)?;
@@ -308,7 +311,7 @@ impl<'s, C: Checkpoint> Made<'s, C> {
         Ok(())
     }
 
-    // Makes the broadcast members.
+    /// Makes the broadcast members.
     fn add_members<R: Wait>(
         &mut self,
         alloc: Global,
@@ -316,7 +319,7 @@ impl<'s, C: Checkpoint> Made<'s, C> {
         roster: &SharedRoster,
         script: &Script,
     ) -> Result<(), OutOfMemory>
-        requires { self.old.ends.drawn ≡ length (agents script.now) + port_count script.now }
+        requires { self.old.ends.drawn ≡ length (declared_agents script.now) + port_count script.now }
         ensures given { OnOk result (Gives (members_given script.now)
             self.old.agents.items self.new.agents.items) }
     {
@@ -339,7 +342,7 @@ impl<'s, C: Checkpoint> Made<'s, C> {
         script: &Script,
         checkpoint: &'s C,
     ) -> Result<Made<'s, C>, OutOfMemory>
-        ensures len { IfOk result (λ made. vec_len made.agents ≡ length (agents script.now)) }
+        ensures len { IfOk result (λ made. vec_len made.agents ≡ length (declared_agents script.now)) }
         ensures given { IfOk result (λ made. AreGiven script.now made.agents.items) }
         ensures seated { IfOk result (λ made. AreAllSeated made.agents.items) }
     {
@@ -349,4 +352,17 @@ impl<'s, C: Checkpoint> Made<'s, C> {
         made.add_members(alloc, rt, roster, script)?;
         Ok(made)
     }
+}
+
+/// Appends a value to a list, and drops it where there is no memory. It is generic, so that what
+/// comes back from a list of agents or of ends is no part of a caller's proof.
+pub(crate) fn push<T: Drop>(list: &mut Vec<T>, value: T) -> Result<(), OutOfMemory>
+    ensures items { OnOk result (list.new.items ≡ list.old.items ++ value ∷ []) }
+    ensures len { OnOk result (vec_len list.new ≡ vec_len list.old + 1) }
+    ensures others { OnOk result ((k : ℕ) (d : T) → k < vec_len list.old
+        → get_or list.new.items k d ≡ get_or list.old.items k d) }
+    ensures last { OnOk result ((d : T) → get_or list.new.items (vec_len list.old) d ≡ value) }
+{
+    list.push(value)?;
+    Ok(())
 }

@@ -7,11 +7,10 @@ ghost use Rattle.hub_run.specs.Giving.{AreGiven};
 ghost use Rattle.hub_agent.specs.Acting.{IsRunFor};
 ghost use Rattle.hub_run.specs.Runs.{AreRunsFor};
 ghost use Rattle.hub_run.specs.Threads.{ArePromised};
-ghost use Rattle.hub_script.specs.Contents.{agents};
+ghost use Rattle.hub_script.specs.Contents.{declared_agents};
 ghost use Rattle.hub_trace.specs.declared.limits.TheConstants.{MAX_AGENT};
 
-use crate::growing::push;
-use crate::making::{Made, RunAgent};
+use crate::making::{Made, RunAgent, push};
 use hub_agent::{Acted, AgentRun, Shared};
 use hub_broadcast::SharedRoster;
 use hub_envelope::{AgentId, OutOfMemory};
@@ -52,11 +51,11 @@ impl<'a> Promise<Ran> for Part<'a> {
 }
 
 /// The handle of an agent's thread.
-type Handle<'a> = PromisedHandle<Ran, Part<'a>>;
+type AgentThread<'a> = PromisedHandle<Ran, Part<'a>>;
 
-// Starts a thread for each agent, in order. Each waits until all threads were made, and does
-// nothing where one couldn't be made. It is a function of its own, since between the first thread
-// and the signal that they wait for nothing may be left out.
+/// Starts a thread for each agent, in order. Each waits until all threads were made, and does
+/// nothing where one couldn't be made. It is a function of its own, since between the first thread
+/// and the signal that they wait for nothing may be left out.
 fn start_all<'s, E, C: Checkpoint + Sync, R: Threads + Wait + Sync>(
     scope: &'s Scope<'s, E>,
     alloc: Global,
@@ -64,7 +63,7 @@ fn start_all<'s, E, C: Checkpoint + Sync, R: Threads + Wait + Sync>(
     begun: &'s OnceLock<bool>,
     script: &'s Script,
     agents: Vec<RunAgent<'s, C>>,
-) -> Result<Vec<Handle<'s>>, OutOfMemory>
+) -> Result<Vec<AgentThread<'s>>, OutOfMemory>
     requires few { vec_len agents ≤ MAX_AGENTS }
     requires given { AreGiven script.now agents.items }
     ensures len { IfOk result (λ handles. vec_len handles ≡ vec_len agents.entry) }
@@ -94,16 +93,16 @@ fn start_all<'s, E, C: Checkpoint + Sync, R: Threads + Wait + Sync>(
     Ok(handles)
 }
 
-// Waits for the threads, and answers in their order what came of each. Where one has no log the
-// scope waits for the others.
+/// Waits for the threads, and answers in their order what came of each. Where one has no log the
+/// scope waits for the others.
 fn join_all<R: Threads + Wait>(
     rt: &R,
     _script: &Script,
-    handles: Vec<Handle<'_>>,
+    handles: Vec<AgentThread<'_>>,
     mut run: Run,
 ) -> Result<Run, OutOfMemory>
     requires none { (run.logs.items ≡ []) × (run.acted.items ≡ []) }
-    requires count { vec_len handles ≡ length (agents _script.now) }
+    requires count { vec_len handles ≡ length (declared_agents _script.now) }
     requires each { ArePromised _script.now handles.items }
     ensures { IfOk result (λ joined. AreRunsFor _script.now joined.logs.items joined.acted.items) }
 {
@@ -115,7 +114,7 @@ fn join_all<R: Threads + Wait>(
     Ok(run)
 }
 
-// Makes the agents, and runs them, none of which begins before the threads of all were made.
+/// Makes the agents, and runs them, none of which begins before the threads of all were made.
 fn run_shared<C: Checkpoint + Sync, R: Threads + Wait + Sync>(
     alloc: Global,
     rt: &R,
@@ -139,7 +138,7 @@ fn run_shared<C: Checkpoint + Sync, R: Threads + Wait + Sync>(
         rt,
         move |scope| -> Result<Run, OutOfMemory>
             requires few { vec_len made ≤ MAX_AGENTS }
-            requires count { vec_len made ≡ length (agents script.now) }
+            requires count { vec_len made ≡ length (declared_agents script.now) }
             requires given { AreGiven script.now made.items }
             requires none { (run.logs.items ≡ []) × (run.acted.items ≡ []) }
             ensures { IfOk result (λ joined.

@@ -1,5 +1,5 @@
 //! How far an agent comes with its actions, shown by an actor that lives in memory.
-use crate::assertions::assert_same;
+use crate::assert_same;
 use hub_agent::{Acted, Actor, OutOfMemory, act_all};
 use hub_envelope::AgentId;
 use hub_script::{ActionKind, Script};

@@ -1,4 +1,4 @@
-use crate::assertions::assert_same;
+use crate::assert_same;
 use hub_bell::{Bell, Listener};
 use hub_envelope::EndId;
 use std::sync::Wait;
@@ -7,12 +7,12 @@ use std::thread;
 
 const ROUNDS: u32 = 10_000;
 
-// An end for each round. Over the rounds they have a bit of each group of words.
+/// An end for each round. Over the rounds they have a bit of each group of words.
 fn end_in(round: u32) -> EndId {
     EndId(round.wrapping_mul(37) % 65_536)
 }
 
-// The one end whose bit is set. `None` where none or more are set.
+/// The one end whose bit is set. `None` where none or more are set.
 fn rung(listener: &mut Listener) -> Option<u32> {
     let names = listener.take_names();
     if names.count_ones() != 1 {
@@ -77,8 +77,8 @@ fn nobody_sleeps_who_was_rung_or_woken(rt: HostRuntime) -> Result<(), Fail> {
     Ok(())
 }
 
-// Rings the other one in each round, then sleeps until it is rung itself. In how many rounds the
-// end that it found was the right one.
+/// Rings the other one in each round, then sleeps until it is rung itself. In how many rounds the
+/// end that it found was the right one.
 fn rounds<R: Wait>(rt: &R, mut listener: Listener, mut other: Bell, begins: bool) -> u32 {
     let mut right = 0u32;
     for round in 0..ROUNDS {
@@ -116,7 +116,7 @@ fn two_threads_ring_each_other_awake(rt: HostRuntime) -> Result<(), Fail> {
     Ok(())
 }
 
-// It passes whichever allocation is refused: the next call has the memory.
+/// It passes whichever allocation is refused: the next call has the memory.
 #[test]
 fn opens_a_listener_whichever_allocation_is_refused(rt: HostRuntime) -> Result<(), Fail> {
     let (mut listener, mut bell) = match Listener::open(rt.alloc()) {

@@ -1,6 +1,6 @@
 ghost use Rattle.std.specs.Prelude.{◌<◌};
 
-use crate::assertions::assert_same;
+use crate::assert_same;
 use hub_depot::{Depot, DepotError, Kept, Key, Named};
 use hub_envelope::{EndId, LineId};
 use std::process::Abort;

@@ -1,13 +1,13 @@
 ghost use Rattle.std.specs.Prelude.{◌≡◌, [], IfSome};
 
-use crate::assertions::assert_same;
+use crate::assert_same;
 use hub_gate::{Entered, Entry, Gate, GateError, Inside, Keeper, Looked, Refusal, word_of};
 use std::alloc::{AllocError, Global};
 use std::process::Abort;
 use std::test::Fail;
 use std::thread;
 
-// So many rights: the first is this number, and each further one is one more.
+/// So many rights: the first is this number, and each further one is one more.
 fn rights(alloc: Global, count: usize, first: u64) -> Result<Vec<u64>, AllocError> {
     let mut rights = Vec::with_capacity(alloc, count)?;
     let mut next = first;
@@ -22,7 +22,7 @@ fn some_rights(rt: &(impl Abort + AllocGlobal), count: usize, first: u64) -> Vec
     rights(rt.alloc(), count, first).expect(rt, "memory")
 }
 
-// A gate with so many rights, as above.
+/// A gate with so many rights, as above.
 fn open(
     rt: &(impl Abort + AllocGlobal),
     count: usize,
@@ -31,13 +31,13 @@ fn open(
     Gate::open(rt.alloc(), some_rights(rt, count, first)).expect(rt, "a gate")
 }
 
-// The keeper shows the gate's word, which no other call tells.
+/// The keeper shows the gate's word, which no other call tells.
 fn assert_shows(rt: &(impl Abort + AllocGlobal), keeper: &Keeper<u64>, wanted: &str) {
     let shown = format!(in rt.alloc(); "{keeper:?}").expect(rt, "memory");
     assert_same(rt, "word", shown.as_str(), wanted);
 }
 
-// The keeper finds these rights, and that they were given.
+/// The keeper finds these rights, and that they were given.
 fn assert_gives(rt: &impl Abort, keeper: &mut Keeper<u64>, wanted: &[u64]) {
     match keeper.look() {
         Looked::Rights(rights) => assert_same(rt, "rights", rights.as_slice(), wanted),
@@ -46,7 +46,7 @@ fn assert_gives(rt: &impl Abort, keeper: &mut Keeper<u64>, wanted: &[u64]) {
     assert!(rt; matches!(keeper.look(), Looked::Given));
 }
 
-// The line of the last entry inside, where it wasn't turned.
+/// The line of the last entry inside, where it wasn't turned.
 fn enter_last(entries: &mut Vec<Entry<u64>>) -> Option<Inside<u64>>
     ensures { IfSome result (λ inside. inside.at.tag ≡ []) }
 {
@@ -56,7 +56,7 @@ fn enter_last(entries: &mut Vec<Entry<u64>>) -> Option<Inside<u64>>
     }
 }
 
-// Why the gate lets the line in no more, where it doesn't.
+/// Why the gate lets the line in no more, where it doesn't.
 fn refusal_of(entry: Entry<u64>) -> Option<Refusal> {
     match entry.enter() {
         Entered::In(inside) => {
@@ -67,7 +67,7 @@ fn refusal_of(entry: Entry<u64>) -> Option<Refusal> {
     }
 }
 
-// Leaves, where the word that was found had the flag ENABLED.
+/// Leaves, where the word that was found had the flag ENABLED.
 fn leave_enabled(rt: &impl Abort, inside: Inside<u64>) -> Entry<u64>
     requires { inside.at.tag ≡ [] }
 {
@@ -138,7 +138,7 @@ fn a_bad_count_gives_the_rights_back(rt: HostRuntime) {
     }
 }
 
-// A gate with the rights 1 to 3, opened again with what came back where memory was refused.
+/// A gate with the rights 1 to 3, opened again with what came back where memory was refused.
 fn open_again(rt: &(impl Abort + AllocGlobal), rights: Vec<u64>) -> (Keeper<u64>, Vec<Entry<u64>>) {
     match Gate::open(rt.alloc(), rights) {
         Ok(gate) => gate,
@@ -150,7 +150,7 @@ fn open_again(rt: &(impl Abort + AllocGlobal), rights: Vec<u64>) -> (Keeper<u64>
     }
 }
 
-// It passes whichever allocation is refused: the next call has the memory.
+/// It passes whichever allocation is refused: the next call has the memory.
 #[test]
 fn gives_the_rights_back_whichever_allocation_is_refused(rt: HostRuntime) -> Result<(), Fail> {
     let first = match rights(rt.alloc(), 3, 1) {
@@ -164,7 +164,7 @@ fn gives_the_rights_back_whichever_allocation_is_refused(rt: HostRuntime) -> Res
     Ok(())
 }
 
-// Enters and leaves so often, and adds 1 to the right while inside.
+/// Enters and leaves so often, and adds 1 to the right while inside.
 fn add_rounds(entry: Entry<u64>, rounds: u64) -> Entry<u64> {
     let mut entry = entry;
     for _ in 0..rounds {
@@ -180,7 +180,7 @@ fn add_rounds(entry: Entry<u64>, rounds: u64) -> Entry<u64> {
     entry
 }
 
-// All 32 entries that a gate may have, each on a thread of its own.
+/// All 32 entries that a gate may have, each on a thread of its own.
 #[test]
 fn sixteen_entries(rt: HostRuntime) {
     let zeros = vec![in rt.alloc(); 0u64; 32].expect(&rt, "memory");

@@ -6,8 +6,6 @@
 #[cfg(test)]
 mod acting;
 #[cfg(test)]
-mod assertions;
-#[cfg(test)]
 mod bells;
 #[cfg(test)]
 mod depots;
@@ -17,5 +15,20 @@ mod gates;
 mod lives;
 #[cfg(test)]
 mod machine;
+
 #[cfg(test)]
-mod orders;
+use std::fmt::Debug;
+#[cfg(test)]
+use std::process::Abort;
+
+/// Asserts that what was found is what was expected.
+// The tests have few assertions of their own, since each one is proved anew where it stands.
+#[cfg(test)]
+pub(crate) fn assert_same<T: PartialEq + Debug + Drop>(
+    rt: &impl Abort,
+    which: &str,
+    found: T,
+    expected: T,
+) {
+    assert_eq!(rt; found, expected, "{which}");
+}

@@ -1,6 +1,6 @@
 //! The machine as a caller meets it: a list of steps, its agents, and its laws. What its steps are
 //! answered is shown by the rows of tests/rows/steps.
-use crate::assertions::assert_same;
+use crate::assert_same;
 use hub_core::{
     Action, Core, OutOfMemory, Outcome, Sender, Step, chain_laws, gate_machine_laws, history_laws,
     mailbox_laws, pair_laws, queue_laws, run,
@@ -139,7 +139,7 @@ fn has_sixteen_agents(rt: HostRuntime) -> Result<(), Fail> {
     Ok(())
 }
 
-// The laws are the contracts of these functions, which do nothing.
+/// The laws are the contracts of these functions, which do nothing.
 #[test]
 fn calls_the_laws() {
     history_laws();

@@ -6,7 +6,7 @@ use Rattle.serde_json.specs.Data.{Data, Items}
 use Rattle.serde_json.specs.Find.{as_array, as_str}
 use Rattle.serde_json.specs.View.{items_view, view}
 use Rattle.serde_json.specs.declared.value.Value.{Value}
-use Rattle.hub_script.specs.declared.script_error.ScriptError.TheVariants.{Syntax}
+use Rattle.hub_script.specs.declared.error.ScriptError.TheVariants.{Syntax}
 use Rattle.hub_script.specs.Fields.{texts_from, texts_of}
 
 -- what is read of the items from the i-th on is what is read of all

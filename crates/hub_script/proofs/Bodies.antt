@@ -9,7 +9,7 @@ use Rattle.serde_json.specs.Data.{Data, null, boolean, number, string, array, ob
 use Rattle.serde_json.specs.Find.{get, get_member}
 use Rattle.serde_json.specs.Read.{read}
 use Rattle.hub_envelope.specs.Answer.{answer_of, answer_to}
-use Rattle.hub_script.specs.declared.script_error.ScriptError.TheVariants.{Syntax}
+use Rattle.hub_script.specs.declared.error.ScriptError.TheVariants.{Syntax}
 use Rattle.hub_script.specs.Fields.{field_in, value_in}
 use Rattle.hub_script.specs.Shapes.{BODY}
 

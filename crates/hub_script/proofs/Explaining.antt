@@ -11,14 +11,14 @@ use Rattle.hub_text.specs.TextLines.{text_lines_of}
 use Rattle.hub_script.specs.declared.form.Form.{Form}
 use Rattle.hub_script.specs.declared.keyword.Keyword.{Keyword}
 use Rattle.hub_script.specs.declared.keyword.TheConstants.{KEYWORDS}
-use Rattle.hub_script.specs.declared.script_error.ScriptError.{ScriptError}
-use Rattle.hub_script.specs.declared.script_error.ScriptError.TheVariants.{Syntax, UnknownAction, UnknownName, DataClone, TooLarge, OutOfMemory}
-use Rattle.hub_script.specs.Answers.{IsScriptAnswer, LeadsTo}
+use Rattle.hub_script.specs.declared.error.ScriptError.{ScriptError}
+use Rattle.hub_script.specs.declared.error.ScriptError.TheVariants.{Syntax, UnknownAction, UnknownName, DataClone, TooLarge, OutOfMemory}
+use Rattle.hub_script.specs.Answers.{IsScriptAnswer, LeavesKnown}
 use Rattle.hub_script.specs.Contents.{Contents}
 use Rattle.hub_script.specs.Context.{after_form}
 use Rattle.hub_script.specs.Fields.{ScriptRead}
 use Rattle.hub_script.specs.Form.{form_of, form_with, object_form, object_only, text_form}
-use Rattle.hub_script.specs.Shapes.{keyword_of, word_of}
+use Rattle.hub_script.specs.Shapes.{keyword_of, form_word}
 use Rattle.hub_script.specs.Known.{Known, nothing}
 use Rattle.hub_script.specs.Refusals.{HasNoForm, HasNoKeyword, IsAccepted, IsExplained, IsNoObject, IsSyntaxError, Means}
 use Rattle.hub_script.specs.Script.{after_line}
@@ -61,15 +61,15 @@ by_form : (P : ScriptRead Form → Type 0) (bytes : List ℕ) (d : Data) → IsO
     → ((f : Form) → TextHasForm bytes f → P (Ok f)) → P (object_form d)
 by_form P bytes d is no_keyword no_form good = by (keyword_of d) refl
   where
-    by_read : (k : Keyword) → is_some (get (word_of k) d) ≡ true → object_form d ≡ form_with k d → (r : ScriptRead Form) → form_with k d ≡ r → P r
+    by_read : (k : Keyword) → is_some (get (form_word k) d) ≡ true → object_form d ≡ form_with k d → (r : ScriptRead Form) → form_with k d ≡ r → P r
     by_read k told same (Ok f) e = good f (record { value = d; is_object = is; form = form_read k d f e })
     by_read k told same (Err x) e =
         subst (λ y. P (Err y)) (only_syntax_with k d x e)
         (no_form (record { value = d; is_object = is; keyword = k; told = told; none = λ f h. (let clash : Ok f ≡ Err x = sym (read_as_shown d f h) ∙ same ∙ e in cc) }))
 
     by : (o : Option Keyword) → keyword_of d ≡ o → P (some_or UnknownAction o >>= λ k. form_with k d)
-    by None e = no_keyword (record { value = d; is_object = is; none = λ k. is_none (get (word_of k) d) (none_has (λ x. is_some (get (word_of x) d)) k e) })
-    by (Some k) e = by_read k (find_passes (λ x. is_some (get (word_of x) d)) KEYWORDS k e) (ap (λ (o : Option Keyword). some_or UnknownAction o >>= λ x. form_with x d) e) (form_with k d) refl
+    by None e = no_keyword (record { value = d; is_object = is; none = λ k. is_none (get (form_word k) d) (none_has (λ x. is_some (get (form_word x) d)) k e) })
+    by (Some k) e = by_read k (find_passes (λ x. is_some (get (form_word x) d)) KEYWORDS k e) (ap (λ (o : Option Keyword). some_or UnknownAction o >>= λ x. form_with x d) e) (form_with k d) refl
 
 is_line : (bytes : List ℕ) (f : Form) → form_of bytes ≡ Ok f → TextHasForm bytes f
 is_line bytes f = by_object P bytes (λ none h. absurd (cc)) (λ d is. by_form P bytes d is (λ none h. absurd (cc)) (λ none h. absurd (cc)) (λ g line h. (let same : g ≡ f = cc in subst (TextHasForm bytes) same line)))
@@ -113,7 +113,7 @@ one_accepted forms f each last earlier later g h = by (split_last forms earlier 
 abbrev pub Continues : List Form → List (List ℕ) → Known → Type 0
 Continues before lines last = (forms : List Form) × AllZip TextHasForm lines forms × Stands (before ++ forms) last × EachAccepted (before ++ forms)
 
-continues : (before : List Form) (k last : Known) (lines : List (List ℕ)) → Stands before k → EachAccepted before → LeadsTo k lines last → Continues before lines last
+continues : (before : List Form) (k last : Known) (lines : List (List ℕ)) → Stands before k → EachAccepted before → LeavesKnown k lines last → Continues before lines last
 continues before k last [] s each h =
     ([], tt, subst (λ fs. Stands fs last) (sym (append-nil before)) (subst (Stands before) h s), subst EachAccepted (sym (append-nil before)) each)
 continues before k last (bytes ∷ lines) s each h =
@@ -126,7 +126,7 @@ continues before k last (bytes ∷ lines) s each h =
 none_accepted : EachAccepted []
 none_accepted earlier later f h = absurd (not_nil earlier later f h)
 
-all_accepted : (lines : List (List ℕ)) (last : Known) → LeadsTo nothing lines last → Continues [] lines last
+all_accepted : (lines : List (List ℕ)) (last : Known) → LeavesKnown nothing lines last → Continues [] lines last
 all_accepted lines last h = continues [] nothing last lines at_first none_accepted h
 
 pub explained : (text : List ℕ) (r : Result Contents (ℕ × ScriptError)) → IsScriptAnswer text r → IsExplained text r

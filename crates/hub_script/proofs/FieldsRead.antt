@@ -10,10 +10,10 @@ use Rattle.hub_origin.specs.Origin.{origin_answer}
 use Rattle.hub_envelope.specs.Answer.{answer_to}
 use Rattle.hub_life.specs.Word.{event_of}
 use Rattle.hub_text.specs.Reading.{◌>>=◌, some_or}
-use Rattle.hub_script.specs.declared.agent_kind.AgentKind.{AgentKind}
-use Rattle.hub_script.specs.declared.agent_kind.AgentKind.TheVariants.{Window, Worker}
-use Rattle.hub_script.specs.declared.script_error.ScriptError.{ScriptError}
-use Rattle.hub_script.specs.declared.script_error.ScriptError.TheVariants.{Syntax}
+use Rattle.hub_script.specs.declared.script.AgentKind.{AgentKind}
+use Rattle.hub_script.specs.declared.script.AgentKind.TheVariants.{Window, Worker}
+use Rattle.hub_script.specs.declared.error.ScriptError.{ScriptError}
+use Rattle.hub_script.specs.declared.error.ScriptError.TheVariants.{Syntax}
 use Rattle.hub_script.specs.Fields.{ScriptRead, field_in, kind_of, queue_of, small, text_in, texts_at, texts_from, texts_of, two_of, value_in, word_in}
 use Rattle.hub_script.specs.Shapes.{BODY, EVENT, FieldType, FieldValue, KIND, LIST, NUMBER, PAIR, QUEUE_WORD, TEXT, URL}
 use Rattle.hub_script.specs.Shown.{IsField, kind_word, strings}

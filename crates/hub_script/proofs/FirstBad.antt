@@ -2,8 +2,8 @@
 use Rattle.std.proofs.Common.{◌≡◌, ℕ, ◌+◌, List, [], ◌∷◌, ◌++◌, length, Ok, Err, inl, inr, refl, ap, arith}
 use Rattle.hub_text.specs.Reading.{AreLinesReadAs}
 use Rattle.hub_text.specs.TextLines.{text_lines_of}
-use Rattle.hub_script.specs.declared.script_error.ScriptError.TheVariants.{OutOfMemory}
-use Rattle.hub_script.specs.Answers.{IsScriptAnswer, LeadsTo}
+use Rattle.hub_script.specs.declared.error.ScriptError.TheVariants.{OutOfMemory}
+use Rattle.hub_script.specs.Answers.{IsScriptAnswer, LeavesKnown}
 use Rattle.hub_script.specs.Contents.{Contents}
 use Rattle.hub_script.specs.Fields.{ScriptRead}
 use Rattle.hub_script.specs.Known.{Known, nothing}
@@ -11,9 +11,9 @@ use Rattle.hub_script.specs.Script.{ScriptAnswer, after_line, going_on, script_f
 
 -- the lines from the n-th on are read to the script, or the first bad one among them is told
 abbrev pub IsAnswerFrom : ℕ → Known → List (List ℕ) → ScriptAnswer → Type 0
-IsAnswerFrom n k lines (Ok script) = (last : Known) × LeadsTo k lines last × (script ≡ last.script)
+IsAnswerFrom n k lines (Ok script) = (last : Known) × LeavesKnown k lines last × (script ≡ last.script)
 IsAnswerFrom n k lines (Err e) =
-    (before : List (List ℕ)) × (bad : List ℕ) × (behind : List (List ℕ)) × (at : Known) × (lines ≡ before ++ bad ∷ behind) × (e.0 ≡ n + length before) × LeadsTo k before at × (after_line at bad ≡ Err e.1)
+    (before : List (List ℕ)) × (bad : List ℕ) × (behind : List (List ℕ)) × (at : Known) × (lines ≡ before ++ bad ∷ behind) × (e.0 ≡ n + length before) × LeavesKnown k before at × (after_line at bad ≡ Err e.1)
 
 one_line : (n : ℕ) (k next : Known) (bytes : List ℕ) (lines : List (List ℕ)) (r : ScriptAnswer) → after_line k bytes ≡ Ok next → IsAnswerFrom (n + 1) next lines r → IsAnswerFrom n k (bytes ∷ lines) r
 one_line n k next bytes lines (Ok script) obeys h = (h.0, (next, obeys, h.1), h.2)

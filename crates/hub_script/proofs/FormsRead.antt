@@ -15,10 +15,10 @@ use Rattle.hub_script.specs.declared.form.Form.{Form}
 use Rattle.hub_script.specs.declared.keyword.Keyword.{Keyword}
 use Rattle.hub_script.specs.declared.keyword.Keyword.TheVariants.{Agent}
 use Rattle.hub_script.specs.declared.keyword.TheConstants.{KEYWORDS}
-use Rattle.hub_script.specs.declared.script_error.ScriptError.TheVariants.{Syntax, UnknownAction}
+use Rattle.hub_script.specs.declared.error.ScriptError.TheVariants.{Syntax, UnknownAction}
 use Rattle.hub_script.specs.Fields.{field_in, member_names}
 use Rattle.hub_script.specs.Form.{fields_in, form_by, form_in, form_with, has_only, object_form}
-use Rattle.hub_script.specs.Shapes.{Fields, FieldValue, FormOf, Shape, shape, fields_of, first_name, has_name, keyword_of, shape_of, word_of}
+use Rattle.hub_script.specs.Shapes.{Fields, FieldValue, FormOf, Shape, shape, fields_of, first_name, has_name, keyword_of, shape_of, form_word}
 use Rattle.hub_script.specs.Shown.{HasFields, HasForm, HasOnly, HasShape, MayMiss}
 use Rattle.hub_script.proofs.FieldsRead.{IsSyntax, bound, field_found, field_is, field_syntax, then_syntax}
 
@@ -120,12 +120,12 @@ none_found {X} p q (y ∷ ys) x h none = by (none_found p q ys x) (q y) (p y) re
     by rest true false g h none = let same : y ≡ x = cc in sym (ap p same) ∙ g
     by rest false false g h none = rest h none
 
-first_is : (k : Keyword) → find (λ j. has_name k (word_of j)) KEYWORDS ≡ Some k
+first_is : (k : Keyword) → find (λ j. has_name k (form_word j)) KEYWORDS ≡ Some k
 first_is Agent = refl
 first_is k = refl
 
 pub none_has : (p : Keyword → Bool) (k : Keyword) → find p KEYWORDS ≡ None → p k ≡ false
-none_has p k = none_found p (λ j. has_name k (word_of j)) KEYWORDS k (first_is k)
+none_has p k = none_found p (λ j. has_name k (form_word j)) KEYWORDS k (first_is k)
 
 -- the first field isn't one that may be missing
 abbrev Stays : Shape → Type 0
@@ -140,11 +140,11 @@ has_first : (s : Shape) (d : Data) (f : Form) → Stays s → HasShape s d f →
 has_first (shape [] made) d f s h = absurd s
 has_first (shape (x ∷ fields) made) d f s h = elim h.1 [ inl shown ↦ ap is_some shown.1 | inr missing ↦ absurd (s h.0 missing.1) ]
 
-pub has_keyword : (d : Data) (f : Form) (h : HasForm d f) → is_some (get (word_of h.keyword) d) ≡ true
+pub has_keyword : (d : Data) (f : Form) (h : HasForm d f) → is_some (get (form_word h.keyword) d) ≡ true
 has_keyword d f h = has_first (shape_of h.keyword) d f (stays h.keyword) h.fields
 
 keyword_is : (d : Data) (f : Form) (h : HasForm d f) → keyword_of d ≡ Some h.keyword
-keyword_is d f h = found_too (λ k. is_some (get (word_of k) d)) (λ k. has_name h.keyword (word_of k)) KEYWORDS h.keyword (λ k. h.only (word_of k)) (first_is h.keyword) (has_keyword d f h)
+keyword_is d f h = found_too (λ k. is_some (get (form_word k) d)) (λ k. has_name h.keyword (form_word k)) KEYWORDS h.keyword (λ k. h.only (form_word k)) (first_is h.keyword) (has_keyword d f h)
 
 -- ---- forms
 

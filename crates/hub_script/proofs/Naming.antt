@@ -8,11 +8,11 @@ use Rattle.std.proofs.lemmas.Bool.{or_from}
 use Rattle.std.proofs.lemmas.Bool.Decides.{Decides-and, Decides-eqb, Decides-like, Decides-not, Decides-or, not_from_Decides}
 use Rattle.std.proofs.lemmas.List.Elements.{Contains-append_cases, Contains-append_left, Contains-append_right, Contains-push, Contains-push_cases}
 use Rattle.hub_envelope.specs.declared.ids.AgentId.{AgentId}
-use Rattle.hub_script.specs.declared.named.Holding.{Holding}
-use Rattle.hub_script.specs.declared.named.NamedEnd.{NamedEnd}
-use Rattle.hub_script.specs.declared.named.NameKind.{NameKind}
-use Rattle.hub_script.specs.declared.named.NameKind.TheVariants.{Port, Member}
-use Rattle.hub_script.specs.Known.{giving, giving_all, holding, is_same_holding, naming, taking}
+use Rattle.hub_script.specs.declared.script_reader.NameHolder.{NameHolder}
+use Rattle.hub_script.specs.declared.script_reader.NamedEnd.{NamedEnd}
+use Rattle.hub_script.specs.declared.script_reader.NameKind.{NameKind}
+use Rattle.hub_script.specs.declared.script_reader.NameKind.TheVariants.{Port, Member}
+use Rattle.hub_script.specs.Known.{giving, giving_all, holding, is_same_holding, naming_more, taking_more}
 
 -- ---- what a name names
 
@@ -45,7 +45,7 @@ other_text : (m n : List ℕ) → bytes_eq m n ≡ false → ¬ (m ≡ n)
 other_text m n h = not_from_Decides (bytes_eq m n) (bytes_decides m n) h
 
 pub port_declared : (names : List ℕ → Option NamedEnd) (P M : List ℕ → Type 0) (m : List ℕ) (x : NamedEnd) → NamesAs names P M → ¬ M m → x.kind ≡ Port
-    → NamesAs (naming m x names) (λ n. (m ≡ n) ⊎ P n) M
+    → NamesAs (naming_more m x names) (λ n. (m ≡ n) ⊎ P n) M
 port_declared names P M m x h other kind n = by (bytes_eq m n) refl
   where
     by : (b : Bool) → bytes_eq m n ≡ b → NameAs (cond b (Some x) (names n)) ((m ≡ n) ⊎ P n) (M n)
@@ -53,14 +53,14 @@ port_declared names P M m x h other kind n = by (bytes_eq m n) refl
     by false e = name_like (names n) (P n) ((m ≡ n) ⊎ P n) (M n) (M n) (λ p. inr p) (elim [ inl s ↦ absurd (other_text m n e s) | inr p ↦ p ]) (λ g. g) (λ g. g) (h n)
 
 pub member_declared : (names : List ℕ → Option NamedEnd) (P M : List ℕ → Type 0) (m : List ℕ) (x : NamedEnd) → NamesAs names P M → ¬ P m → x.kind ≡ Member
-    → NamesAs (naming m x names) P (λ n. (m ≡ n) ⊎ M n)
+    → NamesAs (naming_more m x names) P (λ n. (m ≡ n) ⊎ M n)
 member_declared names P M m x h other kind n = by (bytes_eq m n) refl
   where
     by : (b : Bool) → bytes_eq m n ≡ b → NameAs (cond b (Some x) (names n)) (P n) ((m ≡ n) ⊎ M n)
     by true e = subst (λ k. KindAs k (P n) ((m ≡ n) ⊎ M n)) (sym kind) (inl (same_text m n e), λ g. other (subst P (sym (same_text m n e)) g))
     by false e = name_like (names n) (P n) (P n) (M n) ((m ≡ n) ⊎ M n) (λ g. g) (λ g. g) (λ p. inr p) (elim [ inl s ↦ absurd (other_text m n e s) | inr p ↦ p ]) (h n)
 
-looked : (m n : List ℕ) (x y : NamedEnd) (names : List ℕ → Option NamedEnd) → naming m x names n ≡ Some y
+looked : (m n : List ℕ) (x y : NamedEnd) (names : List ℕ → Option NamedEnd) → naming_more m x names n ≡ Some y
     → ((m ≡ n) × (x ≡ y)) ⊎ ((¬ (m ≡ n)) × (names n ≡ Some y))
 looked m n x y names = by (bytes_eq m n) refl
   where
@@ -75,20 +75,20 @@ pub record IsNumbered (names : List ℕ → Option NamedEnd) (count : ℕ) : Typ
   pub below : (n : List ℕ) (x : NamedEnd) → names n ≡ Some x → x.number < count
   pub apart : (n m : List ℕ) (x y : NamedEnd) → names n ≡ Some x → names m ≡ Some y → x.number ≡ y.number → n ≡ m
 
-pub numbered_more : (names : List ℕ → Option NamedEnd) (count : ℕ) (m : List ℕ) (x : NamedEnd) → IsNumbered names count → x.number ≡ count → IsNumbered (naming m x names) (count + 1)
+pub numbered_more : (names : List ℕ → Option NamedEnd) (count : ℕ) (m : List ℕ) (x : NamedEnd) → IsNumbered names count → x.number ≡ count → IsNumbered (naming_more m x names) (count + 1)
 numbered_more names count m x h e = record { below = below_more; apart = apart_more }
   where
     number_of : (y : NamedEnd) → x ≡ y → y.number ≡ count
     number_of y s = sym (ap (λ (z : NamedEnd). z.number) s) ∙ e
 
-    below_more : (n : List ℕ) (y : NamedEnd) → naming m x names n ≡ Some y → y.number < count + 1
+    below_more : (n : List ℕ) (y : NamedEnd) → naming_more m x names n ≡ Some y → y.number < count + 1
     below_more n y g = by (looked m n x y names g)
       where
         by : ((m ≡ n) × (x ≡ y)) ⊎ ((¬ (m ≡ n)) × (names n ≡ Some y)) → y.number < count + 1
         by (inl p) = let s : y.number ≡ count = number_of y p.1 in omega arith
         by (inr p) = let s : y.number < count = h.below n y p.1 in omega arith
 
-    apart_more : (n l : List ℕ) (y z : NamedEnd) → naming m x names n ≡ Some y → naming m x names l ≡ Some z → y.number ≡ z.number → n ≡ l
+    apart_more : (n l : List ℕ) (y z : NamedEnd) → naming_more m x names n ≡ Some y → naming_more m x names l ≡ Some z → y.number ≡ z.number → n ≡ l
     apart_more n l y z g k same = by (looked m n x y names g) (looked m l x z names k)
       where
         by : ((m ≡ n) × (x ≡ y)) ⊎ ((¬ (m ≡ n)) × (names n ≡ Some y)) → ((m ≡ l) × (x ≡ z)) ⊎ ((¬ (m ≡ l)) × (names l ≡ Some z)) → n ≡ l
@@ -98,13 +98,13 @@ numbered_more names count m x h e = record { below = below_more; apart = apart_m
         by (inr p) (inr q) = h.apart n l y z p.1 q.1 same
 
 -- nobody holds a name that isn't counted yet
-abbrev pub IsFresh : (Holding → Bool) → ℕ → Type 0
-IsFresh holds count = (h : Holding) → count ≤ h.number → holds h ≡ false
+abbrev pub IsFresh : (NameHolder → Bool) → ℕ → Type 0
+IsFresh holds count = (h : NameHolder) → count ≤ h.number → holds h ≡ false
 
 same_holding : (b a : AgentId) (y x : NamedEnd) → Decides (is_same_holding (holding b y) (holding a x)) ((b.0 ≡ a.0) × (y.number ≡ x.number))
 same_holding b a y x = Decides-and (b.0 == a.0) (y.number == x.number) (Decides-eqb b.0 a.0) (Decides-eqb y.number x.number)
 
-other_number : (a : AgentId) (x : NamedEnd) (h : Holding) → x.number < h.number → is_same_holding (holding a x) h ≡ false
+other_number : (a : AgentId) (x : NamedEnd) (h : NameHolder) → x.number < h.number → is_same_holding (holding a x) h ≡ false
 other_number a x h l = by (a.0 == h.agent) (x.number == h.number) (Decides-eqb x.number h.number)
   where
     by : (s t : Bool) → Decides t (x.number ≡ h.number) → (s && t) ≡ false
@@ -112,22 +112,22 @@ other_number a x h l = by (a.0 == h.agent) (x.number == h.number) (Decides-eqb x
     by true false d = refl
     by true true d = let e : x.number ≡ h.number = d.0 refl in absurd (omega arith)
 
-pub fresh_with : (holds : Holding → Bool) (count more : ℕ) (a : AgentId) (x : NamedEnd) → IsFresh holds count → x.number < more → count ≤ more → IsFresh (taking (holding a x) holds) more
+pub fresh_with : (holds : NameHolder → Bool) (count more : ℕ) (a : AgentId) (x : NamedEnd) → IsFresh holds count → x.number < more → count ≤ more → IsFresh (taking_more (holding a x) holds) more
 fresh_with holds count more a x fresh l u h g = or_from (is_same_holding (holding a x) h) (holds h) (other_number a x h (omega arith)) (fresh h (omega arith))
 
 -- ---- who holds what
 
 -- agents hold the names as the predicate says
-abbrev pub HoldsAs : (List ℕ → Option NamedEnd) → (Holding → Bool) → (ℕ → List ℕ → Type 0) → Type 0
+abbrev pub HoldsAs : (List ℕ → Option NamedEnd) → (NameHolder → Bool) → (ℕ → List ℕ → Type 0) → Type 0
 HoldsAs names holds H = (a : AgentId) (n : List ℕ) (x : NamedEnd) → names n ≡ Some x → Decides (holds (holding a x)) (H a.0 n)
 
-pub holds_like : (names : List ℕ → Option NamedEnd) (holds : Holding → Bool) (H G : ℕ → List ℕ → Type 0) → ((a : ℕ) (n : List ℕ) → H a n → G a n) → ((a : ℕ) (n : List ℕ) → G a n → H a n) → HoldsAs names holds H → HoldsAs names holds G
+pub holds_like : (names : List ℕ → Option NamedEnd) (holds : NameHolder → Bool) (H G : ℕ → List ℕ → Type 0) → ((a : ℕ) (n : List ℕ) → H a n → G a n) → ((a : ℕ) (n : List ℕ) → G a n → H a n) → HoldsAs names holds H → HoldsAs names holds G
 holds_like names holds H G there back h a n x is = Decides-like (holds (holding a x)) (there a.0 n) (back a.0 n) (h a n x is)
 
 -- a name is declared at an agent
-pub holds_declared : (names : List ℕ → Option NamedEnd) (holds : Holding → Bool) (H : ℕ → List ℕ → Type 0) (count : ℕ) (m : List ℕ) (x : NamedEnd) (b : AgentId)
+pub holds_declared : (names : List ℕ → Option NamedEnd) (holds : NameHolder → Bool) (H : ℕ → List ℕ → Type 0) (count : ℕ) (m : List ℕ) (x : NamedEnd) (b : AgentId)
     → HoldsAs names holds H → IsNumbered names count → IsFresh holds count → x.number ≡ count → ((a : ℕ) → ¬ H a m)
-    → HoldsAs (naming m x names) (taking (holding b x) holds) (λ a n. ((b.0 ≡ a) × (m ≡ n)) ⊎ H a n)
+    → HoldsAs (naming_more m x names) (taking_more (holding b x) holds) (λ a n. ((b.0 ≡ a) × (m ≡ n)) ⊎ H a n)
 holds_declared names holds H count m x b h numbered fresh number nobody a n y is = by (looked m n x y names is)
   where
     test : Bool
@@ -158,27 +158,27 @@ same_by_name names count m n x y b a numbered is other =
     Decides-like (is_same_holding (holding b x) (holding a y)) (λ q. (q.0, numbered.apart m n x y is other q.1)) (λ q. (q.0, same_name names count m n x y numbered is other q.1)) (same_holding b a x y)
 
 -- an agent receives a port
-pub holds_received : (names : List ℕ → Option NamedEnd) (holds : Holding → Bool) (H : ℕ → List ℕ → Type 0) (count : ℕ) (m : List ℕ) (x : NamedEnd) (b : AgentId)
+pub holds_received : (names : List ℕ → Option NamedEnd) (holds : NameHolder → Bool) (H : ℕ → List ℕ → Type 0) (count : ℕ) (m : List ℕ) (x : NamedEnd) (b : AgentId)
     → HoldsAs names holds H → IsNumbered names count → names m ≡ Some x
-    → HoldsAs names (taking (holding b x) holds) (λ a n. ((b.0 ≡ a) × (m ≡ n)) ⊎ H a n)
+    → HoldsAs names (taking_more (holding b x) holds) (λ a n. ((b.0 ≡ a) × (m ≡ n)) ⊎ H a n)
 holds_received names holds H count m x b h numbered is a n y other =
     Decides-or (is_same_holding (holding b x) (holding a y)) (holds (holding a y)) (same_by_name names count m n x y b a numbered is other) (h a n y other)
 
 -- an agent gives up what it held
-pub holds_given : (names : List ℕ → Option NamedEnd) (holds : Holding → Bool) (H : ℕ → List ℕ → Type 0) (count : ℕ) (m : List ℕ) (x : NamedEnd) (b : AgentId)
+pub holds_given : (names : List ℕ → Option NamedEnd) (holds : NameHolder → Bool) (H : ℕ → List ℕ → Type 0) (count : ℕ) (m : List ℕ) (x : NamedEnd) (b : AgentId)
     → HoldsAs names holds H → IsNumbered names count → names m ≡ Some x
     → HoldsAs names (giving (holding b x) holds) (λ a n. (¬ ((b.0 ≡ a) × (m ≡ n))) × H a n)
 holds_given names holds H count m x b h numbered is a n y other =
     Decides-and (not (is_same_holding (holding b x) (holding a y))) (holds (holding a y)) (Decides-not (is_same_holding (holding b x) (holding a y)) (same_by_name names count m n x y b a numbered is other)) (h a n y other)
 
-pub fresh_given : (holds : Holding → Bool) (count : ℕ) (g : Holding) → IsFresh holds count → IsFresh (giving g holds) count
+pub fresh_given : (holds : NameHolder → Bool) (count : ℕ) (g : NameHolder) → IsFresh holds count → IsFresh (giving g holds) count
 fresh_given holds count g fresh h l = by (is_same_holding g h) (fresh h l)
   where
     by : (b : Bool) → holds h ≡ false → (not b && holds h) ≡ false
     by true e = refl
     by false e = e
 
-pub fresh_all : (holds : Holding → Bool) (count : ℕ) (a : AgentId) (xs : List NamedEnd) → IsFresh holds count → IsFresh (giving_all a xs holds) count
+pub fresh_all : (holds : NameHolder → Bool) (count : ℕ) (a : AgentId) (xs : List NamedEnd) → IsFresh holds count → IsFresh (giving_all a xs holds) count
 fresh_all holds count a [] fresh = fresh
 fresh_all holds count a (x ∷ xs) fresh = fresh_all (giving (holding a x) holds) count a xs (fresh_given holds count (holding a x) fresh)
 
@@ -200,7 +200,7 @@ pub contains_rest : {X : Type 0} (m : X) (ms : List X) (n : X) → Contains ms n
 contains_rest m ms n h = Contains-append_right (m ∷ []) ms n h
 
 -- an agent transfers ports
-pub holds_transferred : (names : List ℕ → Option NamedEnd) (holds : Holding → Bool) (H : ℕ → List ℕ → Type 0) (count : ℕ) (ms : List (List ℕ)) (xs : List NamedEnd) (b : AgentId)
+pub holds_transferred : (names : List ℕ → Option NamedEnd) (holds : NameHolder → Bool) (H : ℕ → List ℕ → Type 0) (count : ℕ) (ms : List (List ℕ)) (xs : List NamedEnd) (b : AgentId)
     → HoldsAs names holds H → IsNumbered names count → AllZip (λ m x. names m ≡ Some x) ms xs
     → HoldsAs names (giving_all b xs holds) (λ a n. (¬ ((b.0 ≡ a) × Contains ms n)) × H a n)
 holds_transferred names holds H count [] [] b h numbered are =

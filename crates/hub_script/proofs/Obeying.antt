@@ -10,11 +10,11 @@ use Rattle.hub_script.specs.declared.form.ActionForm.{ActionForm}
 use Rattle.hub_script.specs.declared.form.ActionForm.TheVariants.{Post, Send, Start, Close}
 use Rattle.hub_script.specs.declared.form.Form.{Form}
 use Rattle.hub_script.specs.declared.form.Form.TheVariants as form
-use Rattle.hub_script.specs.declared.named.NamedEnd.{NamedEnd}
-use Rattle.hub_script.specs.declared.named.NameKind.{NameKind}
-use Rattle.hub_script.specs.declared.named.NameKind.TheVariants.{Port, Member}
-use Rattle.hub_script.specs.declared.script_error.ScriptError.{ScriptError}
-use Rattle.hub_script.specs.Context.{adding, after_form, are_known, has_agent, has_small_body, has_twice, holds_end, is_held, is_member, is_port, is_within, lists_source, names_port, of_port, require, run, tests}
+use Rattle.hub_script.specs.declared.script_reader.NamedEnd.{NamedEnd}
+use Rattle.hub_script.specs.declared.script_reader.NameKind.{NameKind}
+use Rattle.hub_script.specs.declared.script_reader.NameKind.TheVariants.{Port, Member}
+use Rattle.hub_script.specs.declared.error.ScriptError.{ScriptError}
+use Rattle.hub_script.specs.Context.{adding, after_form, are_known, has_agent, has_small_body, has_twice, holds_end, holds_named, is_member, is_port, is_within, lists_source, names_port, of_port, require, run, tests}
 use Rattle.hub_script.specs.Fields.{ScriptRead}
 use Rattle.hub_script.specs.Known.{Known}
 use Rattle.hub_script.specs.Laws.{ClosesHeld, HoldsName, HoldsPort, PostsHeld, SendsHeld, StartsHeld}
@@ -50,20 +50,20 @@ rest_passes : {X : Type 0} (p : X → Bool) (x : X) (xs : List X) → list_all p
 rest_passes p x xs h = (and_parts (p x) (list_all p xs) h).1
 
 -- what is known of the ports and of the names that are used
-names_pass : (k : Known) (f : Form) → are_known k f ≡ true → (list_all (is_port k) (ports_named f) ≡ true) × (list_all (λ used. is_held k used.0 used.1) (names_used f) ≡ true)
+names_pass : (k : Known) (f : Form) → are_known k f ≡ true → (list_all (is_port k) (ports_named f) ≡ true) × (list_all (λ used. holds_named k used.0 used.1) (names_used f) ≡ true)
 names_pass k f h =
-    let p = and_parts (list_all (has_agent k) (agents_named f)) (list_all (is_port k) (ports_named f) && (list_all (is_member k) (members_named f) && list_all (λ used. is_held k used.0 used.1) (names_used f))) h in
-    let q = and_parts (list_all (is_port k) (ports_named f)) (list_all (is_member k) (members_named f) && list_all (λ used. is_held k used.0 used.1) (names_used f)) p.1 in
-    (q.0, (and_parts (list_all (is_member k) (members_named f)) (list_all (λ used. is_held k used.0 used.1) (names_used f)) q.1).1)
+    let p = and_parts (list_all (has_agent k) (agents_named f)) (list_all (is_port k) (ports_named f) && (list_all (is_member k) (members_named f) && list_all (λ used. holds_named k used.0 used.1) (names_used f))) h in
+    let q = and_parts (list_all (is_port k) (ports_named f)) (list_all (is_member k) (members_named f) && list_all (λ used. holds_named k used.0 used.1) (names_used f)) p.1 in
+    (q.0, (and_parts (list_all (is_member k) (members_named f)) (list_all (λ used. holds_named k used.0 used.1) (names_used f)) q.1).1)
 
-holds_name : (k : Known) (a : AgentId) (n : List ℕ) → is_held k a.0 n ≡ true → HoldsName k a n
+holds_name : (k : Known) (a : AgentId) (n : List ℕ) → holds_named k a.0 n ≡ true → HoldsName k a n
 holds_name k a n = by (k.names n) refl
   where
     by : (o : Option NamedEnd) → k.names n ≡ o → holds_end k a.0 o ≡ true → HoldsName k a n
     by None e h = absurd (cc)
     by (Some x) e h = record { end = x; named = e; held = h }
 
-holds_port : (k : Known) (a : AgentId) (n : List ℕ) → is_port k n ≡ true → is_held k a.0 n ≡ true → HoldsPort k a n
+holds_port : (k : Known) (a : AgentId) (n : List ℕ) → is_port k n ≡ true → holds_named k a.0 n ≡ true → HoldsPort k a n
 holds_port k a n = by (k.names n) refl
   where
     of_kind : (kind : NameKind) → of_port kind ≡ true → kind ≡ Port
@@ -83,7 +83,7 @@ posts_held k next at n answer names h =
     let p = names_pass k (form.Action at (Post n answer names)) t.1.0 in (
       record { 0 = at },
       refl,
-      holds_port k (record { 0 = at }) n (head_passes (is_port k) n names p.0) (head_passes (λ (used : ℕ × List ℕ). is_held k used.0 used.1) (at, n) [] p.1),
+      holds_port k (record { 0 = at }) n (head_passes (is_port k) n names p.0) (head_passes (λ (used : ℕ × List ℕ). holds_named k used.0 used.1) (at, n) [] p.1),
       record {
         ports = rest_passes (is_port k) n names p.0;
         apart = not-true (lists_source (form.Action at (Post n answer names))) t.1.1.0;
@@ -112,11 +112,11 @@ starts_held k next at n h other =
     let t : AllPass (tests k (form.Action at (Start n))) = tested k next (form.Action at (Start n)) h in
     let p = names_pass k (form.Action at (Start n)) t.1.0 in
     let port : list_all (is_port k) (n ∷ []) ≡ true = sym (ap (λ b. list_all (is_port k) (cond b [] (n ∷ []))) other) ∙ p.0 in
-    let held : list_all (λ (used : ℕ × List ℕ). is_held k used.0 used.1) ((at, n) ∷ []) ≡ true = sym (ap (λ b. list_all (λ (used : ℕ × List ℕ). is_held k used.0 used.1) (cond b [] ((at, n) ∷ []))) other) ∙ p.1 in
-    (record { 0 = at }, refl, holds_port k (record { 0 = at }) n (head_passes (is_port k) n [] port) (head_passes (λ (used : ℕ × List ℕ). is_held k used.0 used.1) (at, n) [] held))
+    let held : list_all (λ (used : ℕ × List ℕ). holds_named k used.0 used.1) ((at, n) ∷ []) ≡ true = sym (ap (λ b. list_all (λ (used : ℕ × List ℕ). holds_named k used.0 used.1) (cond b [] ((at, n) ∷ []))) other) ∙ p.1 in
+    (record { 0 = at }, refl, holds_port k (record { 0 = at }) n (head_passes (is_port k) n [] port) (head_passes (λ (used : ℕ × List ℕ). holds_named k used.0 used.1) (at, n) [] held))
 
 pub closes_held : ClosesHeld
 closes_held k next at n h =
     let t : AllPass (tests k (form.Action at (Close n))) = tested k next (form.Action at (Close n)) h in
     let p = names_pass k (form.Action at (Close n)) t.1.0 in
-    (record { 0 = at }, refl, holds_name k (record { 0 = at }) n (head_passes (λ (used : ℕ × List ℕ). is_held k used.0 used.1) (at, n) [] p.1))
+    (record { 0 = at }, refl, holds_name k (record { 0 = at }) n (head_passes (λ (used : ℕ × List ℕ). holds_named k used.0 used.1) (at, n) [] p.1))

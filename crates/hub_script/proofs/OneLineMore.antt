@@ -3,7 +3,7 @@ use Rattle.std.proofs.Common.{◌≡◌, ◌⊎◌, ℕ, List, [], ◌∷◌, �
 use Rattle.std.specs.List.{All, Any, Contains}
 use Rattle.std.proofs.lemmas.List.Elements.{All-nil, All-contains, All-push, Contains-append_left, Contains-get_or, Contains-push, Contains-push_cases, filter_map-append}
 use Rattle.hub_script.specs.declared.form.Form.{Form}
-use Rattle.hub_script.specs.Before.{Closes, Gets, Holds, Transfers, agent_kind, agent_kinds}
+use Rattle.hub_script.specs.Before.{Closes, Gets, HoldsAt, Transfers, agent_kind, agent_kinds}
 
 pub Any-before : {X : Type 0} (P : X → Type 0) (xs : List X) (y : X) → Any P xs → Any P (xs ++ y ∷ [])
 Any-before P xs y h =
@@ -56,10 +56,10 @@ at_end P xs y h = All-contains P (xs ++ y ∷ []) y h (Contains-push xs y)
 abbrev pub GivesUp : Form → ℕ → List ℕ → Type 0
 GivesUp f a n = Transfers f a n ⊎ Closes f a n
 
-pub held_by_last : (before : List Form) (f : Form) (a : ℕ) (n : List ℕ) → Gets f a n → Holds (before ++ f ∷ []) a n
+pub held_by_last : (before : List Form) (f : Form) (a : ℕ) (n : List ℕ) → Gets f a n → HoldsAt (before ++ f ∷ []) a n
 held_by_last before f a n g = record { earlier = before; gaining = f; later = []; split = refl; gets = g; keeps = All-nil (λ x. ¬ GivesUp x a n) }
 
-pub held_still : (before : List Form) (f : Form) (a : ℕ) (n : List ℕ) → Holds before a n → ¬ GivesUp f a n → Holds (before ++ f ∷ []) a n
+pub held_still : (before : List Form) (f : Form) (a : ℕ) (n : List ℕ) → HoldsAt before a n → ¬ GivesUp f a n → HoldsAt (before ++ f ∷ []) a n
 held_still before f a n h g = record {
   earlier = h.earlier;
   gaining = h.gaining;
@@ -69,10 +69,10 @@ held_still before f a n h g = record {
   keeps = All-push (λ x. ¬ GivesUp x a n) h.later f h.keeps g;
 }
 
-pub held_before : (before : List Form) (f : Form) (a : ℕ) (n : List ℕ) → Holds (before ++ f ∷ []) a n → Gets f a n ⊎ (Holds before a n × (¬ GivesUp f a n))
+pub held_before : (before : List Form) (f : Form) (a : ℕ) (n : List ℕ) → HoldsAt (before ++ f ∷ []) a n → Gets f a n ⊎ (HoldsAt before a n × (¬ GivesUp f a n))
 held_before before f a n h = by (split_last before h.earlier h.later f h.gaining h.split)
   where
-    by : IsSplit before f h.earlier h.gaining h.later → Gets f a n ⊎ (Holds before a n × (¬ GivesUp f a n))
+    by : IsSplit before f h.earlier h.gaining h.later → Gets f a n ⊎ (HoldsAt before a n × (¬ GivesUp f a n))
     by (inl g) = inl (subst (λ x. Gets x a n) (sym g.1) h.gets)
     by (inr g) =
         let all : All (λ x. ¬ GivesUp x a n) (g.0 ++ f ∷ []) = subst (All (λ x. ¬ GivesUp x a n)) g.1 h.keeps in

@@ -8,14 +8,14 @@ use Rattle.serde_json.specs.Find.{get}
 use Rattle.hub_text.specs.TextLines.{text_lines_of}
 use Rattle.hub_script.specs.declared.form.Form.{Form}
 use Rattle.hub_script.specs.declared.keyword.Keyword.{Keyword}
-use Rattle.hub_script.specs.declared.script_error.ScriptError.{ScriptError}
-use Rattle.hub_script.specs.declared.script_error.ScriptError.TheVariants.{Syntax, UnknownAction, UnknownName, DataClone, TooLarge, OutOfMemory}
-use Rattle.hub_script.specs.declared.script_error.DataCloneCause.{DataCloneCause}
-use Rattle.hub_script.specs.declared.script_error.DataCloneCause.TheVariants.{Source, Twice, Detached}
-use Rattle.hub_script.specs.Before.{Holds, IsMember, IsPort, agent_kinds}
+use Rattle.hub_script.specs.declared.error.ScriptError.{ScriptError}
+use Rattle.hub_script.specs.declared.error.ScriptError.TheVariants.{Syntax, UnknownAction, UnknownName, DataClone, TooLarge, OutOfMemory}
+use Rattle.hub_script.specs.declared.error.DataCloneCause.{DataCloneCause}
+use Rattle.hub_script.specs.declared.error.DataCloneCause.TheVariants.{Source, Twice, Detached}
+use Rattle.hub_script.specs.Before.{HoldsAt, IsMember, IsPort, agent_kinds}
 use Rattle.hub_script.specs.Form.{object_form}
-use Rattle.hub_script.specs.Shapes.{word_of}
-use Rattle.hub_script.specs.Laws.{NoScript, NoneAccepted, OneAnswer, OneRefusal}
+use Rattle.hub_script.specs.Shapes.{form_word}
+use Rattle.hub_script.specs.Laws.{NoScript, NoneAccepted, OneFault, OneRefusal}
 use Rattle.hub_script.specs.Refusals.{AreAccepted, AreKnown, CanTransfer, CannotTransfer, HasUnknown, IsAccepted, IsMisplaced, IsRefusedValue, IsSyntaxError, IsTooLarge, Means}
 use Rattle.hub_script.specs.Shown.{HasForm, TextHasForm, IsObject}
 use Rattle.hub_script.specs.Uses.{agents_named, members_named, names_used, ports_named}
@@ -28,7 +28,7 @@ not_unknown : (before : List Form) (f : Form) → AreKnown before f → ¬ HasUn
 not_unknown before f known (HasUnknown.no_agent a c l) = let h : a < length (agent_kinds before) = All-contains (λ b. b < length (agent_kinds before)) (agents_named f) a known.agents c in omega arith
 not_unknown before f known (HasUnknown.no_port n c h) = h (All-contains (IsPort before) (ports_named f) n known.ports c)
 not_unknown before f known (HasUnknown.no_member n c h) = h (All-contains (IsMember before) (members_named f) n known.members c)
-not_unknown before f known (HasUnknown.not_held used c h) = h (All-contains (λ (u : ℕ × List ℕ). Holds before u.0 u.1) (names_used f) used known.held c)
+not_unknown before f known (HasUnknown.not_held used c h) = h (All-contains (λ (u : ℕ × List ℕ). HoldsAt before u.0 u.1) (names_used f) used known.held c)
 
 may_not : (before : List Form) (f : Form) (cause : DataCloneCause) → CanTransfer before f → ¬ CannotTransfer before f cause
 may_not before f Source can h = can.apart h
@@ -102,8 +102,8 @@ one_form bytes f g h k =
 Cases : List Form → List ℕ → ScriptError → Type 0
 Cases before bytes e =
     (((d : Data) → ¬ IsObject bytes d) × (Syntax ≡ e))
-    ⊎ (((d : Data) × IsObject bytes d × ((k : Keyword) → get (word_of k) d ≡ None)) × (UnknownAction ≡ e))
-    ⊎ (((d : Data) × (k : Keyword) × IsObject bytes d × (is_some (get (word_of k) d) ≡ true) × ((f : Form) → ¬ HasForm d f)) × (Syntax ≡ e))
+    ⊎ (((d : Data) × IsObject bytes d × ((k : Keyword) → get (form_word k) d ≡ None)) × (UnknownAction ≡ e))
+    ⊎ (((d : Data) × (k : Keyword) × IsObject bytes d × (is_some (get (form_word k) d) ≡ true) × ((f : Form) → ¬ HasForm d f)) × (Syntax ≡ e))
     ⊎ ((f : Form) × TextHasForm bytes f × FormMeans before f e)
 
 cases : (before : List Form) (bytes : List ℕ) (e : ScriptError) → Means before bytes e → Cases before bytes e
@@ -119,10 +119,10 @@ cases before bytes TooLarge h = inr (inr (inr (h.form, h.text, (h.placed, h.know
 cases before bytes OutOfMemory h = absurd h
 
 -- an object with no keyword has no field by which a form is told
-no_keyword : (bytes : List ℕ) (d c : Data) (k : Keyword) → IsObject bytes d → IsObject bytes c → ((j : Keyword) → get (word_of j) d ≡ None) → is_some (get (word_of k) c) ≡ true → ⊥
+no_keyword : (bytes : List ℕ) (d c : Data) (k : Keyword) → IsObject bytes d → IsObject bytes c → ((j : Keyword) → get (form_word j) d ≡ None) → is_some (get (form_word k) c) ≡ true → ⊥
 no_keyword bytes d c k h g none told =
     let same : c ≡ d = same_object bytes c d g h in
-    let absent : is_some (get (word_of k) c) ≡ false = ap (λ x. is_some (get (word_of k) x)) same ∙ ap is_some (none k) in
+    let absent : is_some (get (form_word k) c) ≡ false = ap (λ x. is_some (get (form_word k) x)) same ∙ ap is_some (none k) in
     let clash : true ≡ false = sym told ∙ absent in cc
 
 one_case : (before : List Form) (bytes : List ℕ) (e g : ScriptError) → Cases before bytes e → Cases before bytes g → e ≡ g
@@ -177,7 +177,7 @@ splits {X} (z ∷ xs) behind (w ∷ ys) after x y h = by (splits xs behind ys af
     by (inr (inl g)) = inr (inl (g.0, (let rest : ys ≡ xs ++ x ∷ g.0 = g.1 in cc)))
     by (inr (inr g)) = inr (inr (g.0, (let rest : xs ≡ ys ++ y ∷ g.0 = g.1 in cc)))
 
--- the forms of text lines of which one list begins the other
+-- text lines have one list of forms at most
 same_forms : (lines : List (List ℕ)) (fs gs : List Form) → AllZip TextHasForm lines fs → AllZip TextHasForm lines gs → fs ≡ gs
 same_forms [] [] [] h k = refl
 same_forms [] [] (g ∷ gs) h k = absurd k
@@ -208,7 +208,7 @@ not_among lines bad behind all e a means b is =
     let same : at.0 ≡ a.forms = same_forms lines at.0 a.forms at.4 a.shown in
     none_accepted a.forms bad at.2 e at.5 (subst (λ fs. IsAccepted fs at.2) same (b.accepted at.0 at.1 at.2 at.3)) means
 
-pub one_answer : OneAnswer
+pub one_answer : OneFault
 one_answer text n m e g h k = by (splits h.before h.behind k.before k.behind h.refused k.refused (sym h.lines ∙ k.lines))
   where
     means_there : (a : AreAccepted h.before) (b : AreAccepted k.before) → h.before ≡ k.before → h.refused ≡ k.refused → Means b.forms k.refused g → Means a.forms h.refused g

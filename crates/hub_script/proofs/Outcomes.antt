@@ -8,26 +8,26 @@ use Rattle.std.proofs.lemmas.List.Elements.{All-contains}
 use Rattle.hub_envelope.specs.declared.body.BodyError.{BodyError}
 use Rattle.hub_envelope.specs.declared.ids.AgentId.{AgentId}
 use Rattle.hub_envelope.specs.declared.ids.EndId.{EndId}
-use Rattle.hub_origin.specs.declared.origin_error.OriginError.{OriginError}
+use Rattle.hub_origin.specs.declared.origin.OriginError.{OriginError}
 use Rattle.hub_text.specs.Reading.{◌>>=◌, some_or}
 use Rattle.hub_script.specs.declared.action.ActionKind.{ActionKind}
 use Rattle.hub_script.specs.declared.action.ActionKind.TheVariants as action
-use Rattle.hub_script.specs.declared.agent_kind.AgentKind.{AgentKind}
+use Rattle.hub_script.specs.declared.script.AgentKind.{AgentKind}
 use Rattle.hub_script.specs.declared.form.ActionForm.{ActionForm}
 use Rattle.hub_script.specs.declared.form.ActionForm.TheVariants.{Post, Send, Cast, Start, Loaded, Close, Wait, Receive, Order, Event as LifeEvent, Hand, Fetch}
 use Rattle.hub_script.specs.declared.form.Form.{Form}
 use Rattle.hub_script.specs.declared.form.Form.TheVariants as form
-use Rattle.hub_script.specs.declared.named.NamedEnd.{NamedEnd}
-use Rattle.hub_script.specs.declared.script_error.ScriptError.{ScriptError}
-use Rattle.hub_script.specs.declared.script_error.ScriptError.TheVariants.{Syntax, UnknownAction, UnknownName, DataClone, TooLarge, OutOfMemory}
-use Rattle.hub_script.specs.declared.script_error.DataCloneCause.TheVariants.{Source, Twice, Detached}
-use Rattle.hub_script.specs.Before.{Gets, Hands, Holds, IsDeclared, IsMember, IsPort, agent_kinds}
-use Rattle.hub_script.specs.Context.{acting, adding, adding_action, adding_channel, adding_member, after_form, agent_of, are_known, casting, ends_from, has_no_action, has_room, has_twice, holds_list, is_free, is_placed, is_within, lists_source, named, posting, run, sending, tests, value_or}
-use Rattle.hub_script.specs.Contents.{actions, with_agent, with_channel, with_member}
+use Rattle.hub_script.specs.declared.script_reader.NamedEnd.{NamedEnd}
+use Rattle.hub_script.specs.declared.error.ScriptError.{ScriptError}
+use Rattle.hub_script.specs.declared.error.ScriptError.TheVariants.{Syntax, UnknownAction, UnknownName, DataClone, TooLarge, OutOfMemory}
+use Rattle.hub_script.specs.declared.error.DataCloneCause.TheVariants.{Source, Twice, Detached}
+use Rattle.hub_script.specs.Before.{Gets, Hands, HoldsAt, IsDeclared, IsMember, IsPort, agent_kinds}
+use Rattle.hub_script.specs.Context.{acting, adding, adding_action, adding_channel, adding_member, after_form, agent_of, are_known, casting, declared_ends, has_no_action, has_room, has_twice, holds_list, is_unused, is_placed, is_within, lists_source, named_end, posting, run, sending, tests, value_or}
+use Rattle.hub_script.specs.Contents.{actions, with_declared, with_channel, with_member}
 use Rattle.hub_script.specs.Fields.{ScriptRead}
-use Rattle.hub_script.specs.Known.{Known, declaring, end_of, giving, giving_all, holding, next_member, next_port, queue_of, second_port, taking, with_handed, with_holds, with_script}
+use Rattle.hub_script.specs.Known.{Known, declaring, declared_end, giving, giving_all, holding, next_member, next_port, queue_of, second_port, taking_more, with_handed, with_holds, with_script}
 use Rattle.hub_script.specs.Refusals.{AreKnown, CanTransfer, CannotTransfer, HasUnknown, IsAccepted, IsMisplaced, IsRefusedValue, IsTooLarge, ListsSource, StandsTwice}
-use Rattle.hub_script.specs.Uses.{agents_named, body_of, names_used, others_named, ports_named, transfer_of, url_of}
+use Rattle.hub_script.specs.Uses.{agents_named, body_of, names_used, others_named, ports_named, transfer_of, form_url}
 use Rattle.hub_script.proofs.Continuing.{closes, declares_agent, declares_channel, declares_member, hands_on, plainly, receives, transfers}
 use Rattle.hub_script.proofs.Naming.{NameAs, contains_first, contains_rest}
 use Rattle.hub_script.proofs.OneLineMore.{GivesUp}
@@ -66,11 +66,11 @@ by_value : {E : Type 0} (P : ScriptRead Known → Type 0) (answer : Result (List
 by_value P (Ok x) g bad good = good x refl
 by_value P (Err e) g bad good = bad e refl
 
-no_value : (f : Form) → body_of f ≡ None → url_of f ≡ None → ¬ IsRefusedValue f
+no_value : (f : Form) → body_of f ≡ None → form_url f ≡ None → ¬ IsRefusedValue f
 no_value f no_body no_url (IsRefusedValue.body e h) = (let d : None ≡ Some (Err e) = sym no_body ∙ h in cc)
 no_value f no_body no_url (IsRefusedValue.url e h) = (let d : None ≡ Some (Err e) = sym no_url ∙ h in cc)
 
-by_body : (before : List Form) (k : Known) (f : Form) (answer : Result (List ℕ) BodyError) (next : List ℕ → Known) → Passes before k f → body_of f ≡ Some answer → url_of f ≡ None
+by_body : (before : List Form) (k : Known) (f : Form) (answer : Result (List ℕ) BodyError) (next : List ℕ → Known) → Passes before k f → body_of f ≡ Some answer → form_url f ≡ None
     → ((b : List ℕ) → Stands (before ++ f ∷ []) (next b)) → Outcome before f (value_or answer >>= λ b. Ok (next b))
 by_body before k f answer next p is no_url after =
     by_value (Outcome before f) answer (λ b. Ok (next b))
@@ -90,7 +90,7 @@ agent_found P before k f at g p c good =
 
 -- a name that is declared is found
 name_found : {X : Type 0} (P : ScriptRead X → Type 0) (before : List Form) (k : Known) (n : List ℕ) (g : NamedEnd → ScriptRead X) → Stands before k → IsDeclared before n
-    → ((x : NamedEnd) → k.names n ≡ Some x → P (g x)) → P (named k n >>= g)
+    → ((x : NamedEnd) → k.names n ≡ Some x → P (g x)) → P (named_end k n >>= g)
 name_found P before k n g s is good = by (k.names n) refl (s.names n)
   where
     by : (o : Option NamedEnd) → k.names n ≡ o → NameAs o (IsPort before n) (IsMember before n) → P (some_or UnknownName o >>= g)
@@ -106,7 +106,7 @@ zip_push R (z ∷ xs) (w ∷ ys) x y h r = (h.0, zip_push R xs ys x y h.1 r)
 names_found : (P : ScriptRead Known → Type 0) (before : List Form) (k : Known) (found : List (List ℕ)) (xs : List NamedEnd) (names : List (List ℕ)) (g : List NamedEnd → ScriptRead Known) → Stands before k
     → AllZip (λ n x. k.names n ≡ Some x) found xs → ((n : List ℕ) → Contains names n → IsDeclared before n)
     → ((ends : List NamedEnd) → AllZip (λ n x. k.names n ≡ Some x) (found ++ names) ends → P (g ends))
-    → P (ends_from k xs names >>= g)
+    → P (declared_ends k xs names >>= g)
 names_found P before k found xs [] g s are declared good = good xs (subst (λ ns. AllZip (λ n x. k.names n ≡ Some x) ns xs) (sym (append-nil found)) are)
 names_found P before k found xs (n ∷ names) g s are declared good =
     each_found (λ x is.
@@ -114,10 +114,10 @@ names_found P before k found xs (n ∷ names) g s are declared good =
     (λ m c. declared m (contains_rest n names m c))
     (λ ends zip. good ends (subst (λ ns. AllZip (λ m y. k.names m ≡ Some y) ns ends) (append_assoc found (n ∷ []) names) zip)))
   where
-    each_found : ((x : NamedEnd) → k.names n ≡ Some x → P (ends_from k (xs ++ x ∷ []) names >>= g)) → P (named k n >>= (λ x. ends_from k (xs ++ x ∷ []) names) >>= g)
+    each_found : ((x : NamedEnd) → k.names n ≡ Some x → P (declared_ends k (xs ++ x ∷ []) names >>= g)) → P (named_end k n >>= (λ x. declared_ends k (xs ++ x ∷ []) names) >>= g)
     each_found each = by (k.names n) refl (s.names n)
       where
-        by : (o : Option NamedEnd) → k.names n ≡ o → NameAs o (IsPort before n) (IsMember before n) → P (some_or UnknownName o >>= (λ x. ends_from k (xs ++ x ∷ []) names) >>= g)
+        by : (o : Option NamedEnd) → k.names n ≡ o → NameAs o (IsPort before n) (IsMember before n) → P (some_or UnknownName o >>= (λ x. declared_ends k (xs ++ x ∷ []) names) >>= g)
         by None e said = absurd (elim (declared n (contains_first n names)) [ inl h ↦ said.0 h | inr h ↦ said.1 h ])
         by (Some x) e said = each x e
 
@@ -125,7 +125,7 @@ port_is : (before : List Form) (k : Known) (f : Form) (n : List ℕ) → Passes 
 port_is before k f n p c = inl (All-contains (IsPort before) (ports_named f) n p.known.ports c)
 
 used_is : (before : List Form) (k : Known) (f : Form) (a : ℕ) (n : List ℕ) → Passes before k f → Contains (names_used f) (a, n) → IsDeclared before n
-used_is before k f a n p c = p.stands.declared a n (All-contains (λ (u : ℕ × List ℕ). Holds before u.0 u.1) (names_used f) (a, n) p.known.held c)
+used_is before k f a n p c = p.stands.declared a n (All-contains (λ (u : ℕ × List ℕ). HoldsAt before u.0 u.1) (names_used f) (a, n) p.known.held c)
 
 -- ---- what each action adds
 
@@ -141,44 +141,44 @@ post_adds : (before : List Form) (k : Known) (at : ℕ) (n : List ℕ) (answer :
     → Outcome before (form.Action at (Post n answer names)) (posting k (record { 0 = at }) n answer names)
 unfolding posting
 post_adds before k at n answer names p =
-    name_found (Outcome before f) before k n (λ port. ends_from k [] names >>= λ ports. value_or answer >>= λ body. Ok (next port ports body)) p.stands (port_is before k f n p (contains_first n names))
+    name_found (Outcome before f) before k n (λ port. declared_ends k [] names >>= λ ports. value_or answer >>= λ body. Ok (next port ports body)) p.stands (port_is before k f n p (contains_first n names))
     (λ port is. names_found (Outcome before f) before k [] [] names (λ ports. value_or answer >>= λ body. Ok (next port ports body)) p.stands tt (λ m c. port_is before k f m p (contains_rest n names m c))
     (λ ports zip. by_body before k f answer (next port ports) p refl refl
-    (λ b. transfers before k at (Post n answer names) names ports (action.Post (end_of k.script port) b (map (end_of k.script) ports)) p.stands zip (λ a m h. h) (λ a h. h) (λ a m. elim [ inl h ↦ h | inr h ↦ absurd h ]) (λ a m h. inl h))))
+    (λ b. transfers before k at (Post n answer names) names ports (action.Post (declared_end k.script port) b (map (declared_end k.script) ports)) p.stands zip (λ a m h. h) (λ a h. h) (λ a m. elim [ inl h ↦ h | inr h ↦ absurd h ]) (λ a m h. inl h))))
   where
     f : Form
     f = form.Action at (Post n answer names)
 
     next : NamedEnd → List NamedEnd → List ℕ → Known
-    next port ports body = with_holds (acting k (record { 0 = at }) (action.Post (end_of k.script port) body (map (end_of k.script) ports))) (giving_all (record { 0 = at }) ports)
+    next port ports body = with_holds (acting k (record { 0 = at }) (action.Post (declared_end k.script port) body (map (declared_end k.script) ports))) (giving_all (record { 0 = at }) ports)
 
 send_adds : (before : List Form) (k : Known) (at to : ℕ) (answer : Result (List ℕ) BodyError) (names : List (List ℕ)) → Passes before k (form.Action at (Send to answer names))
     → Outcome before (form.Action at (Send to answer names)) (sending k (record { 0 = at }) to answer names)
 unfolding sending
 send_adds before k at to answer names p =
-    agent_found (Outcome before f) before k f to (λ b. ends_from k [] names >>= λ ports. value_or answer >>= λ body. Ok (next b ports body)) p (contains_rest at (to ∷ []) to (contains_first to []))
+    agent_found (Outcome before f) before k f to (λ b. declared_ends k [] names >>= λ ports. value_or answer >>= λ body. Ok (next b ports body)) p (contains_rest at (to ∷ []) to (contains_first to []))
     (names_found (Outcome before f) before k [] [] names (λ ports. value_or answer >>= λ body. Ok (next (record { 0 = to }) ports body)) p.stands tt (λ m c. port_is before k f m p c)
     (λ ports zip. by_body before k f answer (next (record { 0 = to }) ports) p refl refl
-    (λ b. transfers before k at (Send to answer names) names ports (action.Send (queue_of (record { 0 = to })) b (map (end_of k.script) ports)) p.stands zip (λ a m h. h) (λ a h. h) (λ a m. elim [ inl h ↦ h | inr h ↦ absurd h ]) (λ a m h. inl h))))
+    (λ b. transfers before k at (Send to answer names) names ports (action.Send (queue_of (record { 0 = to })) b (map (declared_end k.script) ports)) p.stands zip (λ a m h. h) (λ a h. h) (λ a m. elim [ inl h ↦ h | inr h ↦ absurd h ]) (λ a m h. inl h))))
   where
     f : Form
     f = form.Action at (Send to answer names)
 
     next : AgentId → List NamedEnd → List ℕ → Known
-    next b ports body = with_holds (acting k (record { 0 = at }) (action.Send (queue_of b) body (map (end_of k.script) ports))) (giving_all (record { 0 = at }) ports)
+    next b ports body = with_holds (acting k (record { 0 = at }) (action.Send (queue_of b) body (map (declared_end k.script) ports))) (giving_all (record { 0 = at }) ports)
 
 cast_adds : (before : List Form) (k : Known) (at : ℕ) (n : List ℕ) (answer : Result (List ℕ) BodyError) → Passes before k (form.Action at (Cast n answer)) → Outcome before (form.Action at (Cast n answer)) (casting k (record { 0 = at }) n answer)
 unfolding casting
 cast_adds before k at n answer p =
     name_found (Outcome before f) before k n (λ member. value_or answer >>= λ body. Ok (next member body)) p.stands (used_is before k f at n p (contains_first (at, n) []))
     (λ member is. by_body before k f answer (next member) p refl refl
-    (λ b. plainly before k at (Cast n answer) (record { 0 = at }) (action.Cast (end_of k.script member) b) p.stands (λ a m h. h) (λ a m. elim [ inl h ↦ h | inr h ↦ h ]) (λ a h. h)))
+    (λ b. plainly before k at (Cast n answer) (record { 0 = at }) (action.Cast (declared_end k.script member) b) p.stands (λ a m h. h) (λ a m. elim [ inl h ↦ h | inr h ↦ h ]) (λ a h. h)))
   where
     f : Form
     f = form.Action at (Cast n answer)
 
     next : NamedEnd → List ℕ → Known
-    next member body = acting k (record { 0 = at }) (action.Cast (end_of k.script member) body)
+    next member body = acting k (record { 0 = at }) (action.Cast (declared_end k.script member) body)
 
 start_adds : (before : List Form) (k : Known) (at : ℕ) (n : List ℕ) → Passes before k (form.Action at (Start n)) → Outcome before (form.Action at (Start n)) (adding_action k (record { 0 = at }) (Start n))
 start_adds before k at n p = by (bytes_eq n (codes "queue")) refl
@@ -189,28 +189,28 @@ start_adds before k at n p = by (bytes_eq n (codes "queue")) refl
     starts : (end : EndId) → Outcome before (form.Action at (Start n)) (Ok (acting k (record { 0 = at }) (action.Start end)))
     starts end = quiet before k at (Start n) (action.Start end) p refl (λ a m h. h) (λ a m. elim [ inl h ↦ h | inr h ↦ h ]) (λ a h. h)
 
-    by : (b : Bool) → bytes_eq n (codes "queue") ≡ b → Outcome before (form.Action at (Start n)) (started (cond b (Ok (queue_of (record { 0 = at }))) (named k n >>= λ port. Ok (end_of k.script port))))
+    by : (b : Bool) → bytes_eq n (codes "queue") ≡ b → Outcome before (form.Action at (Start n)) (started (cond b (Ok (queue_of (record { 0 = at }))) (named_end k n >>= λ port. Ok (declared_end k.script port))))
     by true e = starts (queue_of (record { 0 = at }))
     by false e =
-        name_found (λ r. Outcome before (form.Action at (Start n)) (started r)) before k n (λ port. Ok (end_of k.script port)) p.stands
+        name_found (λ r. Outcome before (form.Action at (Start n)) (started r)) before k n (λ port. Ok (declared_end k.script port)) p.stands
         (port_is before k (form.Action at (Start n)) n p (subst (λ b. Contains (cond b [] (n ∷ [])) n) (sym e) (contains_first n [])))
-        (λ port is. starts (end_of k.script port))
+        (λ port is. starts (declared_end k.script port))
 
 close_adds : (before : List Form) (k : Known) (at : ℕ) (n : List ℕ) → Passes before k (form.Action at (Close n)) → Outcome before (form.Action at (Close n)) (adding_action k (record { 0 = at }) (Close n))
 close_adds before k at n p =
     name_found (Outcome before f) before k n (λ end. Ok (next end)) p.stands (used_is before k f at n p (contains_first (at, n) []))
-    (λ end is. accepts before k (next end) f p (no_value f refl refl) (closes before k at n end (action.Close (end_of k.script end)) p.stands is))
+    (λ end is. accepts before k (next end) f p (no_value f refl refl) (closes before k at n end (action.Close (declared_end k.script end)) p.stands is))
   where
     f : Form
     f = form.Action at (Close n)
 
     next : NamedEnd → Known
-    next end = with_holds (acting k (record { 0 = at }) (action.Close (end_of k.script end))) (giving (holding (record { 0 = at }) end))
+    next end = with_holds (acting k (record { 0 = at }) (action.Close (declared_end k.script end))) (giving (holding (record { 0 = at }) end))
 
 receive_adds : (before : List Form) (k : Known) (at : ℕ) (n : List ℕ) → Passes before k (form.Action at (Receive n)) → Outcome before (form.Action at (Receive n)) (adding_action k (record { 0 = at }) (Receive n))
 receive_adds before k at n p =
     name_found (Outcome before f) before k n (λ port. Ok (next port)) p.stands (inl is_port)
-    (λ port is. accepts before k (next port) f p (no_value f refl refl) (receives before k at n port (action.Receive (end_of k.script port)) p.stands is is_port))
+    (λ port is. accepts before k (next port) f p (no_value f refl refl) (receives before k at n port (action.Receive (declared_end k.script port)) p.stands is is_port))
   where
     f : Form
     f = form.Action at (Receive n)
@@ -219,7 +219,7 @@ receive_adds before k at n p =
     is_port = All-contains (IsPort before) (n ∷ []) n p.known.ports (contains_first n [])
 
     next : NamedEnd → Known
-    next port = with_holds (acting k (record { 0 = at }) (action.Receive (end_of k.script port))) (taking (holding (record { 0 = at }) port))
+    next port = with_holds (acting k (record { 0 = at }) (action.Receive (declared_end k.script port))) (taking_more (holding (record { 0 = at }) port))
 
 -- an action that names another agent
 with_other : (before : List Form) (k : Known) (at to : ℕ) (x : ActionForm) (next : AgentId → Known) → Passes before k (form.Action at x) → agents_named (form.Action at x) ≡ at ∷ to ∷ []
@@ -261,7 +261,7 @@ agent_adds before k kind answer p =
     f = form.Agent kind answer
 
     next : List ℕ → Known
-    next origin = with_script k (with_agent k.script (record { kind = kind; origin = origin }))
+    next origin = with_script k (with_declared k.script (record { kind = kind; origin = origin }))
 
     value : (origin : List ℕ) → answer ≡ Ok origin → ¬ IsRefusedValue f
     value origin h (IsRefusedValue.body e g) = cc
@@ -284,7 +284,7 @@ member_adds : (before : List Form) (k : Known) (name : List ℕ) (at : ℕ) (on 
 unfolding adding_member
 member_adds before k name at on p =
     agent_found (Outcome before f) before k f at (λ a. Ok (next a)) p (contains_first at [])
-    (accepts before k (next (record { 0 = at })) f p (no_value f refl refl) (declares_member before k name at on p.stands (free before k name p.stands (and_parts (has_no_action (actions k.script)) (is_free k name) p.fits).1).1))
+    (accepts before k (next (record { 0 = at })) f p (no_value f refl refl) (declares_member before k name at on p.stands (free before k name p.stands (and_parts (has_no_action (actions k.script)) (is_unused k name) p.fits).1).1))
   where
     f : Form
     f = form.Member name at on

@@ -3,8 +3,8 @@ use Rattle.std.proofs.Common.{◌≡◌, ℕ, ◌+◌, List, [], ◌∷◌, ◌+
 use Rattle.std.proofs.lemmas.List.{nil_from_length}
 use Rattle.std.specs.Str.{is_utf8}
 use Rattle.hub_text.specs.TextLines.{text_lines_of}
-use Rattle.hub_script.specs.declared.script_error.ScriptError.{ScriptError}
-use Rattle.hub_script.specs.Answers.{LeadsTo, TakesMemoryAt}
+use Rattle.hub_script.specs.declared.error.ScriptError.{ScriptError}
+use Rattle.hub_script.specs.Answers.{LeavesKnown, ReadingTakesMemoryAt}
 use Rattle.hub_script.specs.Fields.{ScriptRead}
 use Rattle.hub_script.specs.Known.{Known, nothing}
 use Rattle.hub_script.specs.Script.{after_line, going_on, script_from, script_of}
@@ -15,9 +15,9 @@ IsReadSoFar text n k rest = script_from (n + 1) k (text_lines_of rest) ≡ scrip
 
 -- n text lines before the rest obey the rules, and this is known after them
 abbrev pub HasObeyed : List ℕ → ℕ → Known → List ℕ → Type 0
-HasObeyed text n k rest = (before : List (List ℕ)) × (text_lines_of text ≡ before ++ text_lines_of rest) × (n ≡ length before) × LeadsTo nothing before k
+HasObeyed text n k rest = (before : List (List ℕ)) × (text_lines_of text ≡ before ++ text_lines_of rest) × (n ≡ length before) × LeavesKnown nothing before k
 
-leads_more : (k m next : Known) (lines : List (List ℕ)) (line : List ℕ) → LeadsTo k lines m → after_line m line ≡ Ok next → LeadsTo k (lines ++ line ∷ []) next
+leads_more : (k m next : Known) (lines : List (List ℕ)) (line : List ℕ) → LeavesKnown k lines m → after_line m line ≡ Ok next → LeavesKnown k (lines ++ line ∷ []) next
 leads_more k m next [] line h g = (next, ap (λ (j : Known). after_line j line) h ∙ g, refl)
 leads_more k m next (l ∷ lines) line h g = (h.0, h.1, leads_more h.0 m next lines line h.2 g)
 
@@ -29,7 +29,7 @@ one_obeys text n k next rest line after cut added gone = (
   leads_more nothing k next gone.0 line gone.3 added,
 )
 
-pub takes_at : (text : List ℕ) (n : ℕ) (k : Known) (rest line after : List ℕ) → text_lines_of rest ≡ line ∷ text_lines_of after → HasObeyed text n k rest → is_utf8 line ≡ true → TakesMemoryAt text (n + 1)
+pub takes_at : (text : List ℕ) (n : ℕ) (k : Known) (rest line after : List ℕ) → text_lines_of rest ≡ line ∷ text_lines_of after → HasObeyed text n k rest → is_utf8 line ≡ true → ReadingTakesMemoryAt text (n + 1)
 takes_at text n k rest line after cut gone valid = record {
   before = gone.0;
   line = line;

@@ -5,22 +5,22 @@ use Rattle.std.specs.List.{Any}
 use Rattle.std.proofs.lemmas.Bool.Decides.{Decides-like}
 use Rattle.std.proofs.lemmas.List.Quantifiers.{Any-push}
 use Rattle.hub_script.specs.declared.action.Action.{Action}
-use Rattle.hub_script.specs.declared.agent_kind.AgentKind.{AgentKind}
-use Rattle.hub_script.specs.declared.declaration.DeclaredAgent.{DeclaredAgent}
+use Rattle.hub_script.specs.declared.script.AgentKind.{AgentKind}
+use Rattle.hub_script.specs.declared.script.DeclaredAgent.{DeclaredAgent}
 use Rattle.hub_script.specs.declared.form.ActionForm.{ActionForm}
 use Rattle.hub_script.specs.declared.form.Form.{Form}
 use Rattle.hub_script.specs.declared.form.Form.TheVariants as form
-use Rattle.hub_script.specs.declared.named.Holding.{Holding}
-use Rattle.hub_script.specs.declared.named.NamedEnd.{NamedEnd}
-use Rattle.hub_script.specs.Before.{Gets, Hands, HasHanded, Holds, IsAction, IsDeclared, IsMember, IsPort, DeclaresMember, DeclaresPort, agent_kinds}
-use Rattle.hub_script.specs.Contents.{Contents, actions, agents, line_count, with_action}
+use Rattle.hub_script.specs.declared.script_reader.NameHolder.{NameHolder}
+use Rattle.hub_script.specs.declared.script_reader.NamedEnd.{NamedEnd}
+use Rattle.hub_script.specs.Before.{Gets, Hands, HasHanded, HoldsAt, IsAction, IsDeclared, IsMember, IsPort, DeclaresMember, DeclaresPort, agent_kinds}
+use Rattle.hub_script.specs.Contents.{Contents, actions, declared_agents, line_count, with_action}
 use Rattle.hub_script.specs.Context.{has_no_action}
 use Rattle.hub_script.specs.Known.{Known, name_count, nothing}
 use Rattle.hub_script.proofs.Naming.{HoldsAs, IsFresh, IsNumbered, NamesAs, holds_like, name_like}
 use Rattle.hub_script.proofs.OneLineMore.{Any-before, Any-cases, GivesUp, held_before, held_still, none_yet, not_nil, one_agent_more}
 
 abbrev pub kinds_of : Contents → List AgentKind
-kinds_of s = map (λ (a : DeclaredAgent). a.kind) (agents s)
+kinds_of s = map (λ (a : DeclaredAgent). a.kind) (declared_agents s)
 
 pub record Stands (before : List Form) (k : Known) : Type 0 where
   pub count : line_count k.script ≡ length before
@@ -29,11 +29,11 @@ pub record Stands (before : List Form) (k : Known) : Type 0 where
   pub names : NamesAs k.names (IsPort before) (IsMember before)
   pub numbered : IsNumbered k.names (name_count k.script)
   pub fresh : IsFresh k.holds (name_count k.script)
-  pub holds : HoldsAs k.names k.holds (Holds before)
-  pub declared : (a : ℕ) (n : List ℕ) → Holds before a n → IsDeclared before n
+  pub holds : HoldsAs k.names k.holds (HoldsAt before)
+  pub declared : (a : ℕ) (n : List ℕ) → HoldsAt before a n → IsDeclared before n
   pub handed : (a : ℕ) → Decides (k.handed a) (HasHanded before a)
 
-holds_nothing : (a : ℕ) (n : List ℕ) → ¬ Holds [] a n
+holds_nothing : (a : ℕ) (n : List ℕ) → ¬ HoldsAt [] a n
 holds_nothing a n h = not_nil h.earlier h.later h.gaining h.split
 
 pub at_first : Stands [] nothing
@@ -56,10 +56,10 @@ declared_before before f n (inl h) = inl (Any-before (λ x. DeclaresPort x n) be
 declared_before before f n (inr h) = inr (Any-before (λ x. DeclaresMember x n) before f h)
 
 pub declared_still : (before : List Form) (f : Form) (k : Known) → Stands before k → ((a : ℕ) (n : List ℕ) → Gets f a n → IsDeclared (before ++ f ∷ []) n)
-    → (a : ℕ) (n : List ℕ) → Holds (before ++ f ∷ []) a n → IsDeclared (before ++ f ∷ []) n
+    → (a : ℕ) (n : List ℕ) → HoldsAt (before ++ f ∷ []) a n → IsDeclared (before ++ f ∷ []) n
 declared_still before f k s gets a n h = by (held_before before f a n h)
   where
-    by : Gets f a n ⊎ (Holds before a n × (¬ GivesUp f a n)) → IsDeclared (before ++ f ∷ []) n
+    by : Gets f a n ⊎ (HoldsAt before a n × (¬ GivesUp f a n)) → IsDeclared (before ++ f ∷ []) n
     by (inl g) = gets a n g
     by (inr g) = declared_before before f n (s.declared a n g.0)
 
@@ -82,10 +82,10 @@ pub same_acted : (before : List Form) (f : Form) (k : Known) → Stands before k
 same_acted before f k s none =
     Decides-like (not (has_no_action (actions k.script))) (Any-before IsAction before f) (λ h. elim (Any-cases IsAction before f h) [ inl g ↦ g | inr g ↦ absurd (none g) ]) s.acted
 
-pub holds_same : (before : List Form) (f : Form) (names : List ℕ → Option NamedEnd) (holds : Holding → Bool) → ((a : ℕ) (n : List ℕ) → ¬ Gets f a n) → ((a : ℕ) (n : List ℕ) → ¬ GivesUp f a n)
-    → HoldsAs names holds (Holds before) → HoldsAs names holds (Holds (before ++ f ∷ []))
+pub holds_same : (before : List Form) (f : Form) (names : List ℕ → Option NamedEnd) (holds : NameHolder → Bool) → ((a : ℕ) (n : List ℕ) → ¬ Gets f a n) → ((a : ℕ) (n : List ℕ) → ¬ GivesUp f a n)
+    → HoldsAs names holds (HoldsAt before) → HoldsAs names holds (HoldsAt (before ++ f ∷ []))
 holds_same before f names holds gets gives h =
-    holds_like names holds (Holds before) (Holds (before ++ f ∷ []))
+    holds_like names holds (HoldsAt before) (HoldsAt (before ++ f ∷ []))
     (λ a n g. held_still before f a n g (gives a n))
     (λ a n g. elim (held_before before f a n g) [ inl e ↦ absurd (gets a n e) | inr e ↦ e.0 ]) h
 
@@ -96,8 +96,8 @@ some_action [] x = refl
 some_action (y ∷ ys) x = refl
 
 -- the line is an action that leaves these holdings and these agents that have handed their queue on
-pub acted : (before : List Form) (k : Known) (at : ℕ) (x : ActionForm) (action : Action) (holds : Holding → Bool) (handed : ℕ → Bool) → Stands before k
-    → HoldsAs k.names holds (Holds (before ++ form.Action at x ∷ [])) → IsFresh holds (name_count k.script)
+pub acted : (before : List Form) (k : Known) (at : ℕ) (x : ActionForm) (action : Action) (holds : NameHolder → Bool) (handed : ℕ → Bool) → Stands before k
+    → HoldsAs k.names holds (HoldsAt (before ++ form.Action at x ∷ [])) → IsFresh holds (name_count k.script)
     → ((a : ℕ) (n : List ℕ) → Gets (form.Action at x) a n → IsDeclared before n)
     → ((a : ℕ) → Decides (handed a) (HasHanded (before ++ form.Action at x ∷ []) a))
     → Stands (before ++ form.Action at x ∷ []) (record { script = with_action k.script action; names = k.names; holds = holds; handed = handed })

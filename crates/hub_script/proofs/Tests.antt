@@ -13,19 +13,19 @@ use Rattle.std.proofs.lemmas.Option.{slice_get-map}
 use Rattle.hub_envelope.specs.declared.body.BodyError.{BodyError}
 use Rattle.hub_envelope.specs.declared.body.BodyError.TheVariants.{NotJson, NotWhole, TooDeep, TooLong, OutOfMemory as NoMemory}
 use Rattle.hub_envelope.specs.declared.limits.TheConstants.{MAX_AGENTS, MAX_PORTS, MAX_SCRIPT_LINES}
-use Rattle.hub_script.specs.declared.agent_kind.AgentKind.{AgentKind}
-use Rattle.hub_script.specs.declared.agent_kind.AgentKind.TheVariants.{Window, Worker}
-use Rattle.hub_script.specs.declared.declaration.DeclaredAgent.{DeclaredAgent}
+use Rattle.hub_script.specs.declared.script.AgentKind.{AgentKind}
+use Rattle.hub_script.specs.declared.script.AgentKind.TheVariants.{Window, Worker}
+use Rattle.hub_script.specs.declared.script.DeclaredAgent.{DeclaredAgent}
 use Rattle.hub_script.specs.declared.form.ActionForm.{ActionForm}
 use Rattle.hub_script.specs.declared.form.ActionForm.TheVariants.{Post, Send, Cast, Start, Loaded, Event as LifeEvent, Hand, Fetch}
 use Rattle.hub_script.specs.declared.form.Form.{Form}
 use Rattle.hub_script.specs.declared.form.Form.TheVariants as form
-use Rattle.hub_script.specs.declared.named.NamedEnd.{NamedEnd}
-use Rattle.hub_script.specs.declared.named.NameKind.{NameKind}
-use Rattle.hub_script.specs.declared.named.NameKind.TheVariants.{Port, Member}
-use Rattle.hub_script.specs.Before.{Hands, HasHanded, Holds, IsAction, IsDeclared, IsMember, IsPort, Transfers, agent_kind, agent_kinds}
-use Rattle.hub_script.specs.Contents.{actions, agents, line_count}
-use Rattle.hub_script.specs.Context.{are_known, declared_as, has_agent, has_no_action, has_room, has_small_body, has_twice, holds_end, holds_list, is_agent, is_free, is_held, is_kind, is_member, is_placed, is_port, is_small, is_timely, is_within, lists_source, may_start_queue, names_member, names_port, of_port, stands_in}
+use Rattle.hub_script.specs.declared.script_reader.NamedEnd.{NamedEnd}
+use Rattle.hub_script.specs.declared.script_reader.NameKind.{NameKind}
+use Rattle.hub_script.specs.declared.script_reader.NameKind.TheVariants.{Port, Member}
+use Rattle.hub_script.specs.Before.{Hands, HasHanded, HoldsAt, IsAction, IsDeclared, IsMember, IsPort, Transfers, agent_kind, agent_kinds}
+use Rattle.hub_script.specs.Contents.{actions, declared_agents, line_count}
+use Rattle.hub_script.specs.Context.{are_known, declared_as, has_agent, has_no_action, has_room, has_small_body, has_twice, holds_end, holds_list, is_agent, is_unused, holds_named, is_kind, is_member, is_placed, is_port, is_small, is_timely, is_within, lists_source, may_start_queue, names_member, names_port, of_port, stands_in}
 use Rattle.hub_script.specs.Known.{Known}
 use Rattle.hub_script.specs.Refusals.{AreKnown, HasDetached, HasEvent, HasUnknown, IsMisplaced, IsOwnQueue, IsTooLarge, ListsSource, StandsTwice, StartsQueue}
 use Rattle.hub_script.specs.Uses.{agents_named, body_of, members_named, names_declared, names_used, ports_named, transfer_of, transferred}
@@ -56,15 +56,15 @@ each_passes p P d xs h = (Decides-by_and p P (list_all p) d refl (λ _ _. refl) 
 
 -- ---- agents
 
-pub agent_count : (before : List Form) (k : Known) → Stands before k → length (agents k.script) ≡ length (agent_kinds before)
-agent_count before k s = sym (length-map (agents k.script) (λ (a : DeclaredAgent). a.kind)) ∙ ap length s.agents
+pub agent_count : (before : List Form) (k : Known) → Stands before k → length (declared_agents k.script) ≡ length (agent_kinds before)
+agent_count before k s = sym (length-map (declared_agents k.script) (λ (a : DeclaredAgent). a.kind)) ∙ ap length s.agents
 
 pub agent_decides : (before : List Form) (k : Known) (at : ℕ) → Stands before k → Decides (has_agent k at) (at < length (agent_kinds before))
 agent_decides before k at s = by (has_agent k at) refl
   where
-    by : (b : Bool) → nat_lt at (length (agents k.script)) ≡ b → Decides b (at < length (agent_kinds before))
-    by true e = ((λ _. (omega (arith, ltb-true at (length (agents k.script)) e, agent_count before k s))), λ _. refl)
-    by false e = (clash, λ l. absurd (omega (arith, ltb-false at (length (agents k.script)) e, agent_count before k s)))
+    by : (b : Bool) → nat_lt at (length (declared_agents k.script)) ≡ b → Decides b (at < length (agent_kinds before))
+    by true e = ((λ _. (omega (arith, ltb-true at (length (declared_agents k.script)) e, agent_count before k s))), λ _. refl)
+    by false e = (clash, λ l. absurd (omega (arith, ltb-false at (length (declared_agents k.script)) e, agent_count before k s)))
 
 is_kind-Decides : (kind other : AgentKind) → Decides (is_kind kind other) (other ≡ kind)
 is_kind-Decides Window Window = ((λ e. refl), λ e. refl)
@@ -73,12 +73,12 @@ is_kind-Decides Worker Window = ((λ e. absurd (let f : false ≡ true = e in cc
 is_kind-Decides Worker Worker = ((λ e. refl), λ e. refl)
 
 pub kind_decides : (before : List Form) (k : Known) (kind : AgentKind) (at : ℕ) → Stands before k → Decides (is_agent k kind at) (slice_get (agent_kinds before) at ≡ Some kind)
-kind_decides before k kind at s = by (slice_get (agents k.script) at) refl
+kind_decides before k kind at s = by (slice_get (declared_agents k.script) at) refl
   where
-    kinds : slice_get (agent_kinds before) at ≡ option_map (λ (a : DeclaredAgent). a.kind) (slice_get (agents k.script) at)
-    kinds = ap (λ xs. slice_get xs at) (sym s.agents) ∙ slice_get-map (λ (a : DeclaredAgent). a.kind) (agents k.script) at
+    kinds : slice_get (agent_kinds before) at ≡ option_map (λ (a : DeclaredAgent). a.kind) (slice_get (declared_agents k.script) at)
+    kinds = ap (λ xs. slice_get xs at) (sym s.agents) ∙ slice_get-map (λ (a : DeclaredAgent). a.kind) (declared_agents k.script) at
 
-    by : (o : Option DeclaredAgent) → slice_get (agents k.script) at ≡ o → Decides (declared_as kind o) (slice_get (agent_kinds before) at ≡ Some kind)
+    by : (o : Option DeclaredAgent) → slice_get (declared_agents k.script) at ≡ o → Decides (declared_as kind o) (slice_get (agent_kinds before) at ≡ Some kind)
     by None e = ((λ f. absurd (let g : false ≡ true = f in cc)), λ f. absurd (let none : slice_get (agent_kinds before) at ≡ None = kinds ∙ ap (option_map (λ (a : DeclaredAgent). a.kind)) e in cc))
     by (Some a) e =
         let some : slice_get (agent_kinds before) at ≡ Some a.kind = kinds ∙ ap (option_map (λ (x : DeclaredAgent). x.kind)) e in
@@ -108,10 +108,10 @@ member_decides before k n s = by (k.names n) (s.names n)
     by None said = (clash, λ h. absurd (said.1 h))
     by (Some x) said = by_kind x.kind said
 
-held_decides : (before : List Form) (k : Known) (a : ℕ) (n : List ℕ) → Stands before k → Decides (is_held k a n) (Holds before a n)
+held_decides : (before : List Form) (k : Known) (a : ℕ) (n : List ℕ) → Stands before k → Decides (holds_named k a n) (HoldsAt before a n)
 held_decides before k a n s = by (k.names n) refl (s.names n)
   where
-    by : (o : Option NamedEnd) → k.names n ≡ o → NameAs o (IsPort before n) (IsMember before n) → Decides (holds_end k a o) (Holds before a n)
+    by : (o : Option NamedEnd) → k.names n ≡ o → NameAs o (IsPort before n) (IsMember before n) → Decides (holds_end k a o) (HoldsAt before a n)
     by None e said = (clash, λ h. absurd (elim (s.declared a n h) [ inl p ↦ said.0 p | inr m ↦ said.1 m ]))
     by (Some x) e said = s.holds (record { 0 = a }) n x e
 
@@ -127,7 +127,7 @@ free_decides before k n s = by (k.names n) (s.names n)
     by (Some x) said = ((λ e. by_kind x.kind said), λ h. refl)
 
 -- why a name isn't free, or that it is
-pub taken : (before : List Form) (k : Known) (n : List ℕ) → Stands before k → is_free k n ≡ false → (n ≡ codes "queue") ⊎ IsDeclared before n
+pub taken : (before : List Form) (k : Known) (n : List ℕ) → Stands before k → is_unused k n ≡ false → (n ≡ codes "queue") ⊎ IsDeclared before n
 taken before k n s = by (bytes_eq n (codes "queue")) (is_some (k.names n)) (bytes_decides n (codes "queue")) (free_decides before k n s)
   where
     by : (b c : Bool) → Decides b (n ≡ codes "queue") → Decides c (IsDeclared before n) → (not b && not c) ≡ false → (n ≡ codes "queue") ⊎ IsDeclared before n
@@ -135,7 +135,7 @@ taken before k n s = by (bytes_eq n (codes "queue")) (is_some (k.names n)) (byte
     by false true d e f = inr (e.0 refl)
     by false false d e f = absurd (let g : true ≡ false = f in cc)
 
-pub free : (before : List Form) (k : Known) (n : List ℕ) → Stands before k → is_free k n ≡ true → (¬ (n ≡ codes "queue")) × (¬ IsDeclared before n)
+pub free : (before : List Form) (k : Known) (n : List ℕ) → Stands before k → is_unused k n ≡ true → (¬ (n ≡ codes "queue")) × (¬ IsDeclared before n)
 free before k n s = by (bytes_eq n (codes "queue")) (is_some (k.names n)) (bytes_decides n (codes "queue")) (free_decides before k n s)
   where
     by : (b c : Bool) → Decides b (n ≡ codes "queue") → Decides c (IsDeclared before n) → (not b && not c) ≡ true → (¬ (n ≡ codes "queue")) × (¬ IsDeclared before n)
@@ -198,15 +198,15 @@ transfers_each at (Post port body transfer) n h = (refl, h)
 transfers_each at (Send to body transfer) n h = (refl, h)
 transfers_each at x n h = absurd (never_in n h)
 
-pub all_held : (before : List Form) (k : Known) (f : Form) → Stands before k → holds_list k f ≡ true → (a : ℕ) (n : List ℕ) → Transfers f a n → Holds before a n
+pub all_held : (before : List Form) (k : Known) (f : Form) → Stands before k → holds_list k f ≡ true → (a : ℕ) (n : List ℕ) → Transfers f a n → HoldsAt before a n
 all_held before k (form.Action at x) s h a n t =
     let p : (at ≡ a) × Contains (transferred x) n = transfers_so at x a n t in
-    subst (λ b. Holds before b n) p.0 (All-contains (Holds before at) (transferred x) n (each_passes (is_held k at) (Holds before at) (λ m. held_decides before k at m s) (transferred x) h) p.1)
+    subst (λ b. HoldsAt before b n) p.0 (All-contains (HoldsAt before at) (transferred x) n (each_passes (holds_named k at) (HoldsAt before at) (λ m. held_decides before k at m s) (transferred x) h) p.1)
 all_held before k f s h a n t = absurd t
 
 pub detached : (before : List Form) (k : Known) (f : Form) → Stands before k → holds_list k f ≡ false → HasDetached before f
 detached before k (form.Action at x) s h =
-    let r : (n : List ℕ) × Contains (transferred x) n × (¬ Holds before at n) = one_fails (is_held k at) (Holds before at) (λ m. held_decides before k at m s) (transferred x) h in
+    let r : (n : List ℕ) × Contains (transferred x) n × (¬ HoldsAt before at n) = one_fails (holds_named k at) (HoldsAt before at) (λ m. held_decides before k at m s) (transferred x) h in
     record { agent = at; port = r.0; transfers = transfers_each at x r.0 r.1; detached = r.2 }
 detached before k f s h = absurd (cc)
 
@@ -214,22 +214,22 @@ detached before k f s h = absurd (cc)
 
 pub known : (before : List Form) (k : Known) (f : Form) → Stands before k → are_known k f ≡ true → AreKnown before f
 known before k f s h =
-    let p = and_parts (list_all (has_agent k) (agents_named f)) (list_all (is_port k) (ports_named f) && (list_all (is_member k) (members_named f) && list_all (λ used. is_held k used.0 used.1) (names_used f))) h in
-    let q = and_parts (list_all (is_port k) (ports_named f)) (list_all (is_member k) (members_named f) && list_all (λ used. is_held k used.0 used.1) (names_used f)) p.1 in
-    let r = and_parts (list_all (is_member k) (members_named f)) (list_all (λ used. is_held k used.0 used.1) (names_used f)) q.1 in
+    let p = and_parts (list_all (has_agent k) (agents_named f)) (list_all (is_port k) (ports_named f) && (list_all (is_member k) (members_named f) && list_all (λ used. holds_named k used.0 used.1) (names_used f))) h in
+    let q = and_parts (list_all (is_port k) (ports_named f)) (list_all (is_member k) (members_named f) && list_all (λ used. holds_named k used.0 used.1) (names_used f)) p.1 in
+    let r = and_parts (list_all (is_member k) (members_named f)) (list_all (λ used. holds_named k used.0 used.1) (names_used f)) q.1 in
     record {
       agents = each_passes (has_agent k) (λ a. a < length (agent_kinds before)) (λ a. agent_decides before k a s) (agents_named f) p.0;
       ports = each_passes (is_port k) (IsPort before) (λ n. port_decides before k n s) (ports_named f) q.0;
       members = each_passes (is_member k) (IsMember before) (λ n. member_decides before k n s) (members_named f) r.0;
-      held = each_passes (λ used. is_held k used.0 used.1) (λ used. Holds before used.0 used.1) (λ used. held_decides before k used.0 used.1 s) (names_used f) r.1;
+      held = each_passes (λ used. holds_named k used.0 used.1) (λ used. HoldsAt before used.0 used.1) (λ used. held_decides before k used.0 used.1 s) (names_used f) r.1;
     }
 
 pub unknown : (before : List Form) (k : Known) (f : Form) → Stands before k → are_known k f ≡ false → HasUnknown before f
-unknown before k f s h = elim (and_cases (list_all (has_agent k) (agents_named f)) (list_all (is_port k) (ports_named f) && (list_all (is_member k) (members_named f) && list_all (λ used. is_held k used.0 used.1) (names_used f))) h) [
+unknown before k f s h = elim (and_cases (list_all (has_agent k) (agents_named f)) (list_all (is_port k) (ports_named f) && (list_all (is_member k) (members_named f) && list_all (λ used. holds_named k used.0 used.1) (names_used f))) h) [
   | inl e ↦ agent e
-  | inr e ↦ (elim (and_cases (list_all (is_port k) (ports_named f)) (list_all (is_member k) (members_named f) && list_all (λ used. is_held k used.0 used.1) (names_used f)) e) as (λ _. HasUnknown before f) [
+  | inr e ↦ (elim (and_cases (list_all (is_port k) (ports_named f)) (list_all (is_member k) (members_named f) && list_all (λ used. holds_named k used.0 used.1) (names_used f)) e) as (λ _. HasUnknown before f) [
     | inl g ↦ port g
-    | inr g ↦ (elim (and_cases (list_all (is_member k) (members_named f)) (list_all (λ used. is_held k used.0 used.1) (names_used f)) g) as (λ _. HasUnknown before f) [ inl m ↦ member m | inr m ↦ held m ])
+    | inr g ↦ (elim (and_cases (list_all (is_member k) (members_named f)) (list_all (λ used. holds_named k used.0 used.1) (names_used f)) g) as (λ _. HasUnknown before f) [ inl m ↦ member m | inr m ↦ held m ])
   ])
 ]
   where
@@ -242,8 +242,8 @@ unknown before k f s h = elim (and_cases (list_all (has_agent k) (agents_named f
     member : list_all (is_member k) (members_named f) ≡ false → HasUnknown before f
     member e = let r : (n : List ℕ) × Contains (members_named f) n × (¬ IsMember before n) = one_fails (is_member k) (IsMember before) (λ n. member_decides before k n s) (members_named f) e in HasUnknown.no_member r.0 r.1 r.2
 
-    held : list_all (λ used. is_held k used.0 used.1) (names_used f) ≡ false → HasUnknown before f
-    held e = let r : (u : ℕ × List ℕ) × Contains (names_used f) u × (¬ Holds before u.0 u.1) = one_fails (λ used. is_held k used.0 used.1) (λ used. Holds before used.0 used.1) (λ used. held_decides before k used.0 used.1 s) (names_used f) e in HasUnknown.not_held r.0 r.1 r.2
+    held : list_all (λ used. holds_named k used.0 used.1) (names_used f) ≡ false → HasUnknown before f
+    held e = let r : (u : ℕ × List ℕ) × Contains (names_used f) u × (¬ HoldsAt before u.0 u.1) = one_fails (λ used. holds_named k used.0 used.1) (λ used. HoldsAt before used.0 used.1) (λ used. held_decides before k used.0 used.1 s) (names_used f) e in HasUnknown.not_held r.0 r.1 r.2
 
 -- ---- limits
 
@@ -275,7 +275,7 @@ of_action before at (Cast member body) h = of_body before (form.Action at (Cast 
 of_action before at x h = absurd (cc)
 
 pub too_large : (before : List Form) (k : Known) (f : Form) → Stands before k → is_within k f ≡ false → IsTooLarge before f
-too_large before k (form.Agent kind origin) s h = IsTooLarge.agents refl (subst (λ n. MAX_AGENTS ≤ n) (agent_count before k s) (ltb-false (length (agents k.script)) MAX_AGENTS h))
+too_large before k (form.Agent kind origin) s h = IsTooLarge.agents refl (subst (λ n. MAX_AGENTS ≤ n) (agent_count before k s) (ltb-false (length (declared_agents k.script)) MAX_AGENTS h))
 too_large before k (form.Action at x) s h = elim (and_cases (nat_le (length (transferred x)) MAX_PORTS) (has_small_body x) h) [
   | inl e ↦ IsTooLarge.ports (leb-false (length (transferred x)) MAX_PORTS e)
   | inr e ↦ of_action before at x e
@@ -301,7 +301,7 @@ within before k f s free h (IsTooLarge.text_lines l) = let r : length before < M
 within before k f s free h (IsTooLarge.agents is l) = few_agents f h is
   where
     few_agents : (g : Form) → is_within k g ≡ true → is_some (agent_kind g) ≡ true → ⊥
-    few_agents (form.Agent kind origin) e i = omega (arith, ltb-true (length (agents k.script)) MAX_AGENTS e, agent_count before k s, l)
+    few_agents (form.Agent kind origin) e i = omega (arith, ltb-true (length (declared_agents k.script)) MAX_AGENTS e, agent_count before k s, l)
     few_agents g e i = cc
 within before k f s free h (IsTooLarge.ports l) = few_ports f h l
   where
@@ -400,7 +400,7 @@ early before k s h = not_from_Decides (not (has_no_action (actions k.script))) s
 late : (before : List Form) (k : Known) (f : Form) → Stands before k → ¬ IsAction f → has_no_action (actions k.script) ≡ false → IsMisplaced before f
 late before k f s none h = IsMisplaced.declared_late none (s.acted.0 (not_from_false (has_no_action (actions k.script)) h))
 
-is_taken : (before : List Form) (k : Known) (f : Form) (n : List ℕ) → Stands before k → Contains (names_declared f) n → is_free k n ≡ false → IsMisplaced before f
+is_taken : (before : List Form) (k : Known) (f : Form) (n : List ℕ) → Stands before k → Contains (names_declared f) n → is_unused k n ≡ false → IsMisplaced before f
 is_taken before k f n s c h = elim (taken before k n s h) [
   | inl e ↦ IsMisplaced.reserved (subst (Contains (names_declared f)) e c)
   | inr d ↦ IsMisplaced.declared_before n c d
@@ -427,15 +427,15 @@ two_names first second differ h = elim (twice_cases first (second ∷ []) h) [ i
 -- what a channel's names are tested for
 pub record AreFree (k : Known) (first second : List ℕ) : Type 0 where
   pub no_action : has_no_action (actions k.script) ≡ true
-  pub one : is_free k first ≡ true
-  pub other : is_free k second ≡ true
+  pub one : is_unused k first ≡ true
+  pub other : is_unused k second ≡ true
   pub differ : ¬ (first ≡ second)
 
 pub are_free : (k : Known) (first second : List ℕ) (at : ℕ) → is_placed k (form.Channel first second at) ≡ true → AreFree k first second
 are_free k first second at h =
-    let p = and_parts (has_no_action (actions k.script)) (is_free k first && is_free k second && not (bytes_eq first second)) h in
-    let q = and_parts (is_free k first && is_free k second) (not (bytes_eq first second)) p.1 in
-    let r = and_parts (is_free k first) (is_free k second) q.0 in
+    let p = and_parts (has_no_action (actions k.script)) (is_unused k first && is_unused k second && not (bytes_eq first second)) h in
+    let q = and_parts (is_unused k first && is_unused k second) (not (bytes_eq first second)) p.1 in
+    let r = and_parts (is_unused k first) (is_unused k second) q.0 in
     record { no_action = p.0; one = r.0; other = r.1; differ = not_from_Decides (bytes_eq first second) (bytes_decides first second) (not-true (bytes_eq first second) q.1) }
 
 pub placed : (before : List Form) (k : Known) (f : Form) → Stands before k → is_placed k f ≡ true → ¬ IsMisplaced before f
@@ -444,16 +444,16 @@ placed before k (form.Channel first second at) s h =
     let p : AreFree k first second = are_free k first second at h in
     placed_early before (form.Channel first second at) (early before k s p.no_action) (two_fresh before first second (free before k first s p.one) (free before k second s p.other)) (two_names first second p.differ) (λ a g. g) (λ a g. g) (λ g. g) (λ a g. g)
 placed before k (form.Member name at on) s h =
-    let p = and_parts (has_no_action (actions k.script)) (is_free k name) h in
+    let p = and_parts (has_no_action (actions k.script)) (is_unused k name) h in
     placed_early before (form.Member name at on) (early before k s p.0) (one_fresh before name (free before k name s p.1)) (one_name name) (λ a g. g) (λ a g. g) (λ g. g) (λ a g. g)
 placed before k (form.Action at x) s h = timely before k at x s h
 
 pub misplaced : (before : List Form) (k : Known) (f : Form) → Stands before k → is_placed k f ≡ false → IsMisplaced before f
 misplaced before k (form.Agent kind origin) s h = late before k (form.Agent kind origin) s (λ a. a) h
-misplaced before k (form.Channel first second at) s h = elim (and_cases (has_no_action (actions k.script)) (is_free k first && is_free k second && not (bytes_eq first second)) h) [
+misplaced before k (form.Channel first second at) s h = elim (and_cases (has_no_action (actions k.script)) (is_unused k first && is_unused k second && not (bytes_eq first second)) h) [
   | inl e ↦ late before k f s (λ a. a) e
-  | inr e ↦ (elim (and_cases (is_free k first && is_free k second) (not (bytes_eq first second)) e) as (λ _. IsMisplaced before f) [
-    | inl g ↦ (elim (and_cases (is_free k first) (is_free k second) g) as (λ _. IsMisplaced before f) [
+  | inr e ↦ (elim (and_cases (is_unused k first && is_unused k second) (not (bytes_eq first second)) e) as (λ _. IsMisplaced before f) [
+    | inl g ↦ (elim (and_cases (is_unused k first) (is_unused k second) g) as (λ _. IsMisplaced before f) [
       | inl t ↦ is_taken before k f first s (contains_first first (second ∷ [])) t
       | inr t ↦ is_taken before k f second s in_second t
     ])
@@ -469,7 +469,7 @@ misplaced before k (form.Channel first second at) s h = elim (and_cases (has_no_
 
     same : first ≡ second → StandsTwice (first ∷ second ∷ [])
     same e = record { name = second; earlier = []; later = second ∷ []; first = ap (λ n. n ∷ second ∷ []) e; second = contains_first second [] }
-misplaced before k (form.Member name at on) s h = elim (and_cases (has_no_action (actions k.script)) (is_free k name) h) [
+misplaced before k (form.Member name at on) s h = elim (and_cases (has_no_action (actions k.script)) (is_unused k name) h) [
   | inl e ↦ late before k (form.Member name at on) s (λ a. a) e
   | inr e ↦ is_taken before k (form.Member name at on) name s (contains_first name []) e
 ]

@@ -1,7 +1,7 @@
 -- What stands before a text line of a script, read off the forms of those before it, from the first on.
 use Rattle.std.specs.Prelude.{◌≡◌, ◌⊎◌, ℕ, List, ◌∷◌, ◌++◌, Option, Some, None, ⊤}
 use Rattle.std.specs.List.{All, Any, Contains, filter_map}
-use Rattle.hub_script.specs.declared.agent_kind.AgentKind.{AgentKind}
+use Rattle.hub_script.specs.declared.script.AgentKind.{AgentKind}
 use Rattle.hub_script.specs.declared.form.Form.{Form}
 use Rattle.hub_script.specs.declared.form.Form.TheVariants as form
 use Rattle.hub_script.specs.declared.form.ActionForm.TheVariants.{Post, Send, Close, Receive, Hand}
@@ -65,7 +65,7 @@ Gets (form.Action at (Receive port)) a n = (at ≡ a) × (port ≡ n)
 Gets f a n = ⊥
 
 -- the agent got the name by one of the forms, and neither transferred nor closed it by a later one
-pub record Holds (before : List Form) (a : ℕ) (n : List ℕ) : Type 0 where
+pub record HoldsAt (before : List Form) (a : ℕ) (n : List ℕ) : Type 0 where
   pub earlier : List Form
   pub gaining : Form
   pub later : List Form

@@ -2,15 +2,15 @@
 use Rattle.std.specs.Prelude.{ℕ, ◌+◌, ◌≤◌, List, [], ◌∷◌, ◌++◌, length}
 use Rattle.hub_envelope.specs.declared.limits.TheConstants.{MAX_AGENTS, MAX_SCRIPT_LINES}
 use Rattle.hub_script.specs.declared.action.Action.{Action}
-use Rattle.hub_script.specs.declared.declaration.DeclaredAgent.{DeclaredAgent}
-use Rattle.hub_script.specs.declared.declaration.DeclaredChannel.{DeclaredChannel}
-use Rattle.hub_script.specs.declared.declaration.DeclaredMember.{DeclaredMember}
+use Rattle.hub_script.specs.declared.script.DeclaredAgent.{DeclaredAgent}
+use Rattle.hub_script.specs.declared.script.DeclaredChannel.{DeclaredChannel}
+use Rattle.hub_script.specs.declared.script.DeclaredMember.{DeclaredMember}
 
 abbrev pub Contents : Type 0
 Contents = List DeclaredAgent × List DeclaredChannel × List DeclaredMember × List Action
 
-abbrev pub agents : Contents → List DeclaredAgent
-agents s = s.0
+abbrev pub declared_agents : Contents → List DeclaredAgent
+declared_agents s = s.0
 
 abbrev pub channels : Contents → List DeclaredChannel
 channels s = s.1
@@ -25,8 +25,8 @@ actions s = s.3
 abbrev pub empty : Contents
 empty = ([], [], [], [])
 
-abbrev pub with_agent : Contents → DeclaredAgent → Contents
-with_agent s a = (s.0 ++ a ∷ [], s.1, s.2, s.3)
+abbrev pub with_declared : Contents → DeclaredAgent → Contents
+with_declared s a = (s.0 ++ a ∷ [], s.1, s.2, s.3)
 
 abbrev pub with_channel : Contents → DeclaredChannel → Contents
 with_channel s c = (s.0, s.1 ++ c ∷ [], s.2, s.3)
@@ -42,4 +42,4 @@ abbrev pub line_count : Contents → ℕ
 line_count s = length s.0 + length s.1 + length s.2 + length s.3
 
 abbrev pub IsWithinLimits : Contents → Type 0
-IsWithinLimits s = (line_count s ≤ MAX_SCRIPT_LINES) × (length (agents s) ≤ MAX_AGENTS)
+IsWithinLimits s = (line_count s ≤ MAX_SCRIPT_LINES) × (length (declared_agents s) ≤ MAX_AGENTS)

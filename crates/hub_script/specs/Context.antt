@@ -3,7 +3,7 @@
 -- limits. What is left of its body or URL comes last.
 use Rattle.std.specs.Prelude.{ℕ, ◌==◌, ◌||◌, ◌&&◌, List, [], ◌∷◌, ◌++◌, length, map, Bool, true, false, not, nat_le, nat_lt, Option, Some, None, is_some, Result, Ok, Err, ⊤, codes, bytes_eq, slice_get, if◌then◌else◌}
 use Rattle.std.specs.List.{list_all, list_any}
-use Rattle.hub_origin.specs.declared.origin_error.OriginError.{OriginError}
+use Rattle.hub_origin.specs.declared.origin.OriginError.{OriginError}
 use Rattle.hub_envelope.specs.declared.limits.TheConstants.{MAX_AGENTS, MAX_PORTS, MAX_SCRIPT_LINES}
 use Rattle.hub_envelope.specs.declared.body.BodyError.{BodyError}
 use Rattle.hub_envelope.specs.declared.body.BodyError.TheVariants.{NotJson, NotWhole, TooDeep, TooLong, OutOfMemory as NoMemory}
@@ -13,22 +13,22 @@ use Rattle.hub_text.specs.Reading.{◌>>=◌, some_or}
 use Rattle.hub_script.specs.declared.action.Action.{Action}
 use Rattle.hub_script.specs.declared.action.ActionKind.{ActionKind}
 use Rattle.hub_script.specs.declared.action.ActionKind.TheVariants as action
-use Rattle.hub_script.specs.declared.agent_kind.AgentKind.{AgentKind}
-use Rattle.hub_script.specs.declared.agent_kind.AgentKind.TheVariants.{Window, Worker}
-use Rattle.hub_script.specs.declared.declaration.DeclaredAgent.{DeclaredAgent}
+use Rattle.hub_script.specs.declared.script.AgentKind.{AgentKind}
+use Rattle.hub_script.specs.declared.script.AgentKind.TheVariants.{Window, Worker}
+use Rattle.hub_script.specs.declared.script.DeclaredAgent.{DeclaredAgent}
 use Rattle.hub_script.specs.declared.form.Form.{Form}
 use Rattle.hub_script.specs.declared.form.Form.TheVariants as form
 use Rattle.hub_script.specs.declared.form.ActionForm.{ActionForm}
 use Rattle.hub_script.specs.declared.form.ActionForm.TheVariants.{Post, Send, Cast, Start, Loaded, Close, Wait, Receive, Order, Event as LifeEvent, Hand, Fetch}
-use Rattle.hub_script.specs.declared.named.NamedEnd.{NamedEnd}
-use Rattle.hub_script.specs.declared.named.NameKind.{NameKind}
-use Rattle.hub_script.specs.declared.named.NameKind.TheVariants.{Port, Member}
-use Rattle.hub_script.specs.declared.script_error.ScriptError.{ScriptError}
-use Rattle.hub_script.specs.declared.script_error.ScriptError.TheVariants.{Syntax, UnknownName, DataClone, TooLarge}
-use Rattle.hub_script.specs.declared.script_error.DataCloneCause.TheVariants.{Source, Twice, Detached}
-use Rattle.hub_script.specs.Contents.{actions, agents, line_count, with_action, with_agent, with_channel, with_member}
+use Rattle.hub_script.specs.declared.script_reader.NamedEnd.{NamedEnd}
+use Rattle.hub_script.specs.declared.script_reader.NameKind.{NameKind}
+use Rattle.hub_script.specs.declared.script_reader.NameKind.TheVariants.{Port, Member}
+use Rattle.hub_script.specs.declared.error.ScriptError.{ScriptError}
+use Rattle.hub_script.specs.declared.error.ScriptError.TheVariants.{Syntax, UnknownName, DataClone, TooLarge}
+use Rattle.hub_script.specs.declared.error.DataCloneCause.TheVariants.{Source, Twice, Detached}
+use Rattle.hub_script.specs.Contents.{actions, declared_agents, line_count, with_action, with_declared, with_channel, with_member}
 use Rattle.hub_script.specs.Fields.{ScriptRead}
-use Rattle.hub_script.specs.Known.{Known, declaring, end_of, giving, giving_all, holding, next_member, next_port, queue_of, second_port, taking, with_handed, with_holds, with_script}
+use Rattle.hub_script.specs.Known.{Known, declaring, declared_end, giving, giving_all, holding, next_member, next_port, queue_of, second_port, taking_more, with_handed, with_holds, with_script}
 use Rattle.hub_script.specs.Uses.{agents_named, members_named, names_used, ports_named, transfer_of, transferred}
 
 -- ---- what is known of agents and names
@@ -39,7 +39,7 @@ has_no_action (x ∷ xs) = false
 
 -- the agent of that number is declared
 abbrev pub has_agent : Known → ℕ → Bool
-has_agent k at = nat_lt at (length (agents k.script))
+has_agent k at = nat_lt at (length (declared_agents k.script))
 
 abbrev pub is_kind : AgentKind → AgentKind → Bool
 is_kind Window Window = true
@@ -53,11 +53,11 @@ declared_as kind (Some a) = is_kind kind a.kind
 
 -- the agent of that number is declared, as one of that kind
 abbrev pub is_agent : Known → AgentKind → ℕ → Bool
-is_agent k kind at = declared_as kind (slice_get (agents k.script) at)
+is_agent k kind at = declared_as kind (slice_get (declared_agents k.script) at)
 
 -- a name that isn't reserved and isn't declared yet
-abbrev pub is_free : Known → List ℕ → Bool
-is_free k n = not (bytes_eq n (codes "queue")) && not (is_some (k.names n))
+abbrev pub is_unused : Known → List ℕ → Bool
+is_unused k n = not (bytes_eq n (codes "queue")) && not (is_some (k.names n))
 
 abbrev pub of_port : NameKind → Bool
 of_port Port = true
@@ -82,8 +82,8 @@ holds_end k a None = false
 holds_end k a (Some x) = k.holds (holding (record { 0 = a }) x)
 
 -- the agent of that number holds what the name names
-abbrev pub is_held : Known → ℕ → List ℕ → Bool
-is_held k a n = holds_end k a (k.names n)
+abbrev pub holds_named : Known → ℕ → List ℕ → Bool
+holds_named k a n = holds_end k a (k.names n)
 
 abbrev pub stands_in : List ℕ → List (List ℕ) → Bool
 stands_in n names = list_any (λ m. bytes_eq m n) names
@@ -110,13 +110,13 @@ is_timely k at x = true
 -- declarations stand before all actions, and declare different names that are free
 abbrev pub is_placed : Known → Form → Bool
 is_placed k (form.Agent kind origin) = has_no_action (actions k.script)
-is_placed k (form.Channel first second at) = has_no_action (actions k.script) && (is_free k first && is_free k second && not (bytes_eq first second))
-is_placed k (form.Member name at on) = has_no_action (actions k.script) && is_free k name
+is_placed k (form.Channel first second at) = has_no_action (actions k.script) && (is_unused k first && is_unused k second && not (bytes_eq first second))
+is_placed k (form.Member name at on) = has_no_action (actions k.script) && is_unused k name
 is_placed k (form.Action at x) = is_timely k at x
 
 -- agents and names are declared, are of the kind that is meant, and are held where they are used
 abbrev pub are_known : Known → Form → Bool
-are_known k f = list_all (has_agent k) (agents_named f) && (list_all (is_port k) (ports_named f) && (list_all (is_member k) (members_named f) && list_all (λ used. is_held k used.0 used.1) (names_used f)))
+are_known k f = list_all (has_agent k) (agents_named f) && (list_all (is_port k) (ports_named f) && (list_all (is_member k) (members_named f) && list_all (λ used. holds_named k used.0 used.1) (names_used f)))
 
 -- the port that posts is in its own list
 abbrev pub lists_source : Form → Bool
@@ -125,7 +125,7 @@ lists_source f = false
 
 -- the agent holds the ports that it transfers
 abbrev pub holds_list : Known → Form → Bool
-holds_list k (form.Action at x) = list_all (is_held k at) (transferred x)
+holds_list k (form.Action at x) = list_all (holds_named k at) (transferred x)
 holds_list k f = true
 
 -- a body that isn't nested too deep or too long
@@ -145,7 +145,7 @@ has_small_body x = true
 
 -- agents, listed ports and bodies are within their limits
 abbrev pub is_within : Known → Form → Bool
-is_within k (form.Agent kind origin) = nat_lt (length (agents k.script)) MAX_AGENTS
+is_within k (form.Agent kind origin) = nat_lt (length (declared_agents k.script)) MAX_AGENTS
 is_within k (form.Action at x) = nat_le (length (transferred x)) MAX_PORTS && has_small_body x
 is_within k f = true
 
@@ -181,13 +181,13 @@ abbrev pub agent_of : Known → ℕ → ScriptRead AgentId
 agent_of k at = if has_agent k at then Ok (record { 0 = at }) else Err UnknownName
 
 -- the port or member of that name
-abbrev pub named : Known → List ℕ → ScriptRead NamedEnd
-named k n = some_or UnknownName (k.names n)
+abbrev pub named_end : Known → List ℕ → ScriptRead NamedEnd
+named_end k n = some_or UnknownName (k.names n)
 
 -- what names name, behind other ends
-abbrev pub ends_from : Known → List NamedEnd → List (List ℕ) → ScriptRead (List NamedEnd)
-ends_from k ends [] = Ok ends
-ends_from k ends (n ∷ names) = named k n >>= λ x. ends_from k (ends ++ x ∷ []) names
+abbrev pub declared_ends : Known → List NamedEnd → List (List ℕ) → ScriptRead (List NamedEnd)
+declared_ends k ends [] = Ok ends
+declared_ends k ends (n ∷ names) = named_end k n >>= λ x. declared_ends k (ends ++ x ∷ []) names
 
 -- a body or a URL that is one
 abbrev pub value_or : {E : Type 0} → Result (List ℕ) E → ScriptRead (List ℕ)
@@ -199,7 +199,7 @@ abbrev pub acting : Known → AgentId → ActionKind → Known
 acting k a kind = with_script k (with_action k.script (record { at = a; kind = kind }))
 
 abbrev pub adding_agent : Known → AgentKind → Result (List ℕ) OriginError → ScriptRead Known
-adding_agent k kind answer = value_or answer >>= λ origin. Ok (with_script k (with_agent k.script (record { kind = kind; origin = origin })))
+adding_agent k kind answer = value_or answer >>= λ origin. Ok (with_script k (with_declared k.script (record { kind = kind; origin = origin })))
 
 -- an agent holds the names that are declared at it
 unfoldable pub adding_channel : Known → List ℕ → List ℕ → ℕ → ScriptRead Known
@@ -220,28 +220,28 @@ transferring k a ports kind = Ok (with_holds (acting k a kind) (giving_all a por
 -- a post at a port
 unfoldable pub posting : Known → AgentId → List ℕ → Result (List ℕ) BodyError → List (List ℕ) → ScriptRead Known
 posting k a n answer names = do
-  port ← named k n
-  ports ← ends_from k [] names
+  port ← named_end k n
+  ports ← declared_ends k [] names
   body ← value_or answer
-  transferring k a ports (action.Post (end_of k.script port) body (map (end_of k.script) ports))
+  transferring k a ports (action.Post (declared_end k.script port) body (map (declared_end k.script) ports))
 
 -- a post at an agent's queue
 unfoldable pub sending : Known → AgentId → ℕ → Result (List ℕ) BodyError → List (List ℕ) → ScriptRead Known
 sending k a to answer names = do
   b ← agent_of k to
-  ports ← ends_from k [] names
+  ports ← declared_ends k [] names
   body ← value_or answer
-  transferring k a ports (action.Send (queue_of b) body (map (end_of k.script) ports))
+  transferring k a ports (action.Send (queue_of b) body (map (declared_end k.script) ports))
 
 unfoldable pub casting : Known → AgentId → List ℕ → Result (List ℕ) BodyError → ScriptRead Known
 casting k a n answer = do
-  member ← named k n
+  member ← named_end k n
   body ← value_or answer
-  Ok (acting k a (action.Cast (end_of k.script member) body))
+  Ok (acting k a (action.Cast (declared_end k.script member) body))
 
 -- what the agent starts: its own queue, or a port
 abbrev pub start_of : Known → AgentId → List ℕ → ScriptRead EndId
-start_of k a n = if bytes_eq n (codes "queue") then Ok (queue_of a) else (named k n >>= λ port. Ok (end_of k.script port))
+start_of k a n = if bytes_eq n (codes "queue") then Ok (queue_of a) else (named_end k n >>= λ port. Ok (declared_end k.script port))
 
 -- what is known after the action of the agent. What it closes it doesn't hold any more, and what it receives it
 -- holds, whoever held it before
@@ -251,9 +251,9 @@ adding_action k a (Send to answer names) = sending k a to answer names
 adding_action k a (Cast n answer) = casting k a n answer
 adding_action k a (Start n) = start_of k a n >>= λ end. Ok (acting k a (action.Start end))
 adding_action k a Loaded = Ok (acting k a (action.Loaded (queue_of a)))
-adding_action k a (Close n) = named k n >>= λ end. Ok (with_holds (acting k a (action.Close (end_of k.script end))) (giving (holding a end)))
+adding_action k a (Close n) = named_end k n >>= λ end. Ok (with_holds (acting k a (action.Close (declared_end k.script end))) (giving (holding a end)))
 adding_action k a (Wait messages) = Ok (acting k a (action.Wait messages))
-adding_action k a (Receive n) = named k n >>= λ port. Ok (with_holds (acting k a (action.Receive (end_of k.script port))) (taking (holding a port)))
+adding_action k a (Receive n) = named_end k n >>= λ port. Ok (with_holds (acting k a (action.Receive (declared_end k.script port))) (taking_more (holding a port)))
 adding_action k a (Order to) = agent_of k to >>= λ b. Ok (acting k a (action.Order b))
 adding_action k a (LifeEvent event) = Ok (acting k a (action.Event event))
 adding_action k a (Hand to) = agent_of k to >>= λ b. Ok (with_handed (acting k a (action.Hand b)) a.0)

@@ -6,17 +6,17 @@ use Rattle.hub_origin.specs.Origin.{origin_answer}
 use Rattle.hub_text.specs.Reading.{◌>>=◌, IsReadAs, some_or}
 use Rattle.serde_json.specs.Data.{Data, null, boolean, number, string, array, object, Items, no_items, item, Members, no_members, member}
 use Rattle.serde_json.specs.Find.{as_array, as_number, as_str, as_u64, get}
-use Rattle.hub_script.specs.declared.agent_kind.AgentKind.{AgentKind}
-use Rattle.hub_script.specs.declared.agent_kind.AgentKind.TheVariants.{Window, Worker}
-use Rattle.hub_script.specs.declared.script_error.ScriptError.{ScriptError}
-use Rattle.hub_script.specs.declared.script_error.ScriptError.TheVariants.{OutOfMemory, Syntax}
+use Rattle.hub_script.specs.declared.script.AgentKind.{AgentKind}
+use Rattle.hub_script.specs.declared.script.AgentKind.TheVariants.{Window, Worker}
+use Rattle.hub_script.specs.declared.error.ScriptError.{ScriptError}
+use Rattle.hub_script.specs.declared.error.ScriptError.TheVariants.{OutOfMemory, Syntax}
 use Rattle.hub_script.specs.Shapes.{BODY, EVENT, FieldType, FieldValue, KIND, LIST, NUMBER, PAIR, QUEUE_WORD, TEXT, URL}
 
 -- what is read, or what is wrong in a script line
 abbrev pub ScriptRead : Type 0 → Type 0
 ScriptRead X = Result X ScriptError
 
--- what was returned is what is read; want of memory says nothing of the script line
+-- what was returned is what is read; running out of memory says nothing of the script line
 abbrev pub IsRead : {X : Type 0} → ScriptRead X → ScriptRead X → Type 0
 IsRead result read = IsReadAs OutOfMemory (λ x. x) result read
 

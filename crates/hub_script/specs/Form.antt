@@ -8,7 +8,7 @@ use Rattle.serde_json.specs.Read.{read}
 use Rattle.hub_text.specs.Reading.{◌>>=◌, some_or}
 use Rattle.hub_script.specs.declared.form.Form.{Form}
 use Rattle.hub_script.specs.declared.keyword.Keyword.{Keyword}
-use Rattle.hub_script.specs.declared.script_error.ScriptError.TheVariants.{Syntax, UnknownAction}
+use Rattle.hub_script.specs.declared.error.ScriptError.TheVariants.{Syntax, UnknownAction}
 use Rattle.hub_script.specs.Fields.{ScriptRead, field_in, field_names}
 use Rattle.hub_script.specs.Shapes.{Fields, FormOf, Shape, shape, has_name, keyword_of, shape_of}
 
@@ -27,7 +27,7 @@ form_by k d = form_in (shape_of k) d
 abbrev pub has_only : Keyword → Data → Bool
 has_only k d = list_all (has_name k) (field_names d)
 
--- the form that is told by the keyword, with exactly its fields
+-- the form that the keyword stands for, with exactly its fields
 unfoldable pub form_with : Keyword → Data → ScriptRead Form
 form_with k d = if has_only k d then form_by k d else Err Syntax
 

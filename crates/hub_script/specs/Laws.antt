@@ -7,13 +7,13 @@ use Rattle.hub_envelope.specs.declared.limits.TheConstants.{MAX_PORTS}
 use Rattle.hub_script.specs.declared.form.Form.{Form}
 use Rattle.hub_script.specs.declared.form.Form.TheVariants as form
 use Rattle.hub_script.specs.declared.form.ActionForm.TheVariants.{Post, Send, Start, Close}
-use Rattle.hub_script.specs.declared.named.NamedEnd.{NamedEnd}
-use Rattle.hub_script.specs.declared.named.NameKind.TheVariants.{Port}
-use Rattle.hub_script.specs.declared.script_error.ScriptError.{ScriptError}
+use Rattle.hub_script.specs.declared.script_reader.NamedEnd.{NamedEnd}
+use Rattle.hub_script.specs.declared.script_reader.NameKind.TheVariants.{Port}
+use Rattle.hub_script.specs.declared.error.ScriptError.{ScriptError}
 use Rattle.hub_text.specs.TextLines.{text_lines_of}
-use Rattle.hub_script.specs.Context.{after_form, has_twice, is_held, is_port, stands_in}
+use Rattle.hub_script.specs.Context.{after_form, has_twice, holds_named, is_port, stands_in}
 use Rattle.hub_script.specs.Known.{Known, holding}
-use Rattle.hub_script.specs.Refusals.{AreAccepted, IsAccepted, IsRefused, Means}
+use Rattle.hub_script.specs.Refusals.{AreAccepted, IsAccepted, IsTextRefused, Means}
 use Rattle.hub_script.specs.Shown.{TextHasForm}
 
 -- the agent holds the port or member of that name
@@ -39,7 +39,7 @@ pub record MayTransfer (k : Known) (a : AgentId) (source : Option (List ℕ)) (n
   pub ports : list_all (is_port k) names ≡ true
   pub apart : is_listed source names ≡ false
   pub different : has_twice names ≡ false
-  pub held : list_all (is_held k a.0) names ≡ true
+  pub held : list_all (holds_named k a.0) names ≡ true
   pub few : length names ≤ MAX_PORTS
 
 -- a post that is read names a port that its agent holds, and what it transfers may be transferred
@@ -70,9 +70,9 @@ abbrev pub NoneAccepted : Type 0
 NoneAccepted = (before : List Form) (bytes : List ℕ) (f : Form) (e : ScriptError) → TextHasForm bytes f → IsAccepted before f → ¬ Means before bytes e
 
 -- a text is refused in one way at most: one text line of it, with one kind
-abbrev pub OneAnswer : Type 0
-OneAnswer = (text : List ℕ) (n m : ℕ) (e g : ScriptError) → IsRefused text n e → IsRefused text m g → (n ≡ m) × (e ≡ g)
+abbrev pub OneFault : Type 0
+OneFault = (text : List ℕ) (n m : ℕ) (e g : ScriptError) → IsTextRefused text n e → IsTextRefused text m g → (n ≡ m) × (e ≡ g)
 
 -- a text that is refused isn't one of accepted text lines
 abbrev pub NoScript : Type 0
-NoScript = (text : List ℕ) (n : ℕ) (e : ScriptError) → IsRefused text n e → ¬ AreAccepted (text_lines_of text)
+NoScript = (text : List ℕ) (n : ℕ) (e : ScriptError) → IsTextRefused text n e → ¬ AreAccepted (text_lines_of text)

@@ -3,12 +3,12 @@ use Rattle.std.specs.BTreeMap.{get_by_text}
 use Rattle.std.specs.BTreeSet.{contains}
 use Rattle.std.specs.Ordering.{nat_cmp, ordering_then}
 use Rattle.std.specs.declared.cmp.Ordering.{Ordering}
-use Rattle.hub_script.specs.declared.named.Holding.{Holding}
+use Rattle.hub_script.specs.declared.script_reader.NameHolder.{NameHolder}
 use Rattle.hub_script.specs.declared.script_reader.ScriptReader.{ScriptReader}
 use Rattle.hub_script.specs.Known.{Known}
 
 -- by agent, then by name
-abbrev pub holding_cmp : Holding → Holding → Ordering
+abbrev pub holding_cmp : NameHolder → NameHolder → Ordering
 holding_cmp x y = ordering_then (nat_cmp x.agent y.agent) (nat_cmp x.number y.number)
 
 abbrev pub known : ScriptReader → Known

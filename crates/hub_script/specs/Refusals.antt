@@ -6,25 +6,25 @@ use Rattle.std.specs.Prelude.{◌≡◌, ◌⊎◌, ℕ, ◌+◌, ◌<◌, ◌�
 use Rattle.std.specs.List.{All, AllZip, Any, Contains}
 use Rattle.serde_json.specs.Data.{Data}
 use Rattle.serde_json.specs.Find.{get}
-use Rattle.hub_origin.specs.declared.origin_error.OriginError.{OriginError}
+use Rattle.hub_origin.specs.declared.origin.OriginError.{OriginError}
 use Rattle.hub_envelope.specs.declared.limits.TheConstants.{MAX_AGENTS, MAX_PORTS, MAX_SCRIPT_LINES}
 use Rattle.hub_envelope.specs.declared.body.BodyError.{BodyError}
 use Rattle.hub_envelope.specs.declared.body.BodyError.TheVariants.{TooDeep, TooLong}
 use Rattle.hub_text.specs.TextLines.{text_lines_of}
-use Rattle.hub_script.specs.declared.agent_kind.AgentKind.TheVariants.{Window, Worker}
+use Rattle.hub_script.specs.declared.script.AgentKind.TheVariants.{Window, Worker}
 use Rattle.hub_script.specs.declared.form.Form.{Form}
 use Rattle.hub_script.specs.declared.form.Form.TheVariants as form
 use Rattle.hub_script.specs.declared.form.ActionForm.TheVariants.{Post, Start, Loaded, Event as LifeEvent, Hand, Fetch}
 use Rattle.hub_script.specs.declared.keyword.Keyword.{Keyword}
-use Rattle.hub_script.specs.declared.script_error.ScriptError.{ScriptError}
-use Rattle.hub_script.specs.declared.script_error.ScriptError.TheVariants.{Syntax, UnknownAction, UnknownName, DataClone, TooLarge, OutOfMemory}
-use Rattle.hub_script.specs.declared.script_error.DataCloneCause.{DataCloneCause}
-use Rattle.hub_script.specs.declared.script_error.DataCloneCause.TheVariants.{Source, Twice, Detached}
-use Rattle.hub_script.specs.Before.{Hands, HasHanded, Holds, IsAction, IsDeclared, IsMember, IsPort, Transfers, agent_kind, agent_kinds}
+use Rattle.hub_script.specs.declared.error.ScriptError.{ScriptError}
+use Rattle.hub_script.specs.declared.error.ScriptError.TheVariants.{Syntax, UnknownAction, UnknownName, DataClone, TooLarge, OutOfMemory}
+use Rattle.hub_script.specs.declared.error.DataCloneCause.{DataCloneCause}
+use Rattle.hub_script.specs.declared.error.DataCloneCause.TheVariants.{Source, Twice, Detached}
+use Rattle.hub_script.specs.Before.{Hands, HasHanded, HoldsAt, IsAction, IsDeclared, IsMember, IsPort, Transfers, agent_kind, agent_kinds}
 use Rattle.hub_script.specs.Contents.{Contents}
-use Rattle.hub_script.specs.Shapes.{word_of}
+use Rattle.hub_script.specs.Shapes.{form_word}
 use Rattle.hub_script.specs.Shown.{HasForm, TextHasForm, IsObject}
-use Rattle.hub_script.specs.Uses.{agents_named, body_of, members_named, names_declared, names_used, ports_named, transfer_of, url_of}
+use Rattle.hub_script.specs.Uses.{agents_named, body_of, members_named, names_declared, names_used, ports_named, transfer_of, form_url}
 
 -- ---- the text line by itself
 
@@ -32,11 +32,11 @@ use Rattle.hub_script.specs.Uses.{agents_named, body_of, members_named, names_de
 pub record IsNoObject (bytes : List ℕ) : Type 0 where
   pub none : (d : Data) → ¬ IsObject bytes d
 
--- an object that has none of the fields by which forms are told
+-- an object that has no keyword of a form among its fields
 pub record HasNoKeyword (bytes : List ℕ) : Type 0 where
   pub value : Data
   pub is_object : IsObject bytes value
-  pub none : (k : Keyword) → get (word_of k) value ≡ None
+  pub none : (k : Keyword) → get (form_word k) value ≡ None
 
 -- an object that has such a field, and has none of the forms: other fields than shown, or another type, number or
 -- word in one
@@ -44,7 +44,7 @@ pub record HasNoForm (bytes : List ℕ) : Type 0 where
   pub value : Data
   pub is_object : IsObject bytes value
   pub keyword : Keyword
-  pub told : is_some (get (word_of keyword) value) ≡ true
+  pub told : is_some (get (form_word keyword) value) ≡ true
   pub none : (f : Form) → ¬ HasForm value f
 
 -- ---- its place in the script
@@ -97,14 +97,14 @@ pub data HasUnknown (before : List Form) (f : Form) : Type 0 where
   no_agent : (a : ℕ) → Contains (agents_named f) a → length (agent_kinds before) ≤ a → HasUnknown before f
   no_port : (n : List ℕ) → Contains (ports_named f) n → ¬ IsPort before n → HasUnknown before f
   no_member : (n : List ℕ) → Contains (members_named f) n → ¬ IsMember before n → HasUnknown before f
-  not_held : (used : ℕ × List ℕ) → Contains (names_used f) used → ¬ Holds before used.0 used.1 → HasUnknown before f
+  not_held : (used : ℕ × List ℕ) → Contains (names_used f) used → ¬ HoldsAt before used.0 used.1 → HasUnknown before f
 
 -- each agent and each name is declared before, is of the kind that is meant, and is held
 pub record AreKnown (before : List Form) (f : Form) : Type 0 where
   pub agents : All (λ a. a < length (agent_kinds before)) (agents_named f)
   pub ports : All (IsPort before) (ports_named f)
   pub members : All (IsMember before) (members_named f)
-  pub held : All (λ used. Holds before used.0 used.1) (names_used f)
+  pub held : All (λ used. HoldsAt before used.0 used.1) (names_used f)
 
 -- ---- the list of ports
 
@@ -118,7 +118,7 @@ pub record HasDetached (before : List Form) (f : Form) : Type 0 where
   pub agent : ℕ
   pub port : List ℕ
   pub transfers : Transfers f agent port
-  pub detached : ¬ Holds before agent port
+  pub detached : ¬ HoldsAt before agent port
 
 -- why the list can't be transferred
 abbrev pub CannotTransfer : List Form → Form → DataCloneCause → Type 0
@@ -130,7 +130,7 @@ CannotTransfer before f Detached = (¬ ListsSource f) × (¬ StandsTwice (transf
 pub record CanTransfer (before : List Form) (f : Form) : Type 0 where
   pub apart : ¬ ListsSource f
   pub different : ¬ StandsTwice (transfer_of f)
-  pub held : (a : ℕ) (n : List ℕ) → Transfers f a n → Holds before a n
+  pub held : (a : ℕ) (n : List ℕ) → Transfers f a n → HoldsAt before a n
 
 -- ---- limits, bodies and URLs
 
@@ -147,7 +147,7 @@ pub data IsTooLarge (before : List Form) (f : Form) : Type 0 where
 -- a body or a URL that is refused
 pub data IsRefusedValue (f : Form) : Type 0 where
   body : (e : BodyError) → body_of f ≡ Some (Err e) → IsRefusedValue f
-  url : (e : OriginError) → url_of f ≡ Some (Err e) → IsRefusedValue f
+  url : (e : OriginError) → form_url f ≡ Some (Err e) → IsRefusedValue f
 
 -- ---- what a refusal means
 
@@ -206,7 +206,7 @@ pub data IsSyntaxError (before : List Form) (bytes : List ℕ) : Type 0 where
   not_fitting : DoesNotFit before bytes → IsSyntaxError before bytes
   bad_value : HasBadValue before bytes → IsSyntaxError before bytes
 
--- what a refusal says of the text line, behind text lines of those forms; want of memory says nothing of a text
+-- what a refusal says of the text line, behind text lines of those forms; running out of memory says nothing of a text
 abbrev pub Means : List Form → List ℕ → ScriptError → Type 0
 Means before bytes Syntax = IsSyntaxError before bytes
 Means before bytes UnknownAction = HasNoKeyword bytes
@@ -222,7 +222,7 @@ pub record AreAccepted (lines : List (List ℕ)) : Type 0 where
   pub accepted : (earlier later : List Form) (f : Form) → forms ≡ earlier ++ f ∷ later → IsAccepted earlier f
 
 -- the text line of that number is refused so, and those before it are accepted
-pub record IsRefused (text : List ℕ) (n : ℕ) (e : ScriptError) : Type 0 where
+pub record IsTextRefused (text : List ℕ) (n : ℕ) (e : ScriptError) : Type 0 where
   pub before : List (List ℕ)
   pub refused : List ℕ
   pub behind : List (List ℕ)
@@ -231,7 +231,7 @@ pub record IsRefused (text : List ℕ) (n : ℕ) (e : ScriptError) : Type 0 wher
   pub accepted : AreAccepted before
   pub means : Means accepted.forms refused e
 
--- what an answer says of the text; want of memory says nothing
+-- what an answer says of the text; running out of memory says nothing
 abbrev pub IsExplained : List ℕ → Result Contents (ℕ × ScriptError) → Type 0
 IsExplained text (Ok script) = AreAccepted (text_lines_of text)
-IsExplained text (Err e) = (e.1 ≡ OutOfMemory) ⊎ IsRefused text e.0 e.1
+IsExplained text (Err e) = (e.1 ≡ OutOfMemory) ⊎ IsTextRefused text e.0 e.1

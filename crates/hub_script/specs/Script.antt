@@ -2,7 +2,7 @@
 use Rattle.std.specs.Prelude.{ℕ, ◌+◌, List, [], ◌∷◌, Result, Ok, Err}
 use Rattle.hub_text.specs.Reading.{◌>>=◌}
 use Rattle.hub_text.specs.TextLines.{text_lines_of}
-use Rattle.hub_script.specs.declared.script_error.ScriptError.{ScriptError}
+use Rattle.hub_script.specs.declared.error.ScriptError.{ScriptError}
 use Rattle.hub_script.specs.Contents.{Contents}
 use Rattle.hub_script.specs.Context.{after_form}
 use Rattle.hub_script.specs.Fields.{ScriptRead}
@@ -22,7 +22,7 @@ abbrev pub going_on : ℕ → ScriptRead Known → (Known → ScriptAnswer) → 
 going_on n (Err e) more = Err (n, e)
 going_on n (Ok k) more = more k
 
--- the script of the text lines, of which the first has the number n
+-- the script of the text lines from number n on
 unfoldable pub script_from : ℕ → Known → List (List ℕ) → ScriptAnswer
 script_from n k [] = Ok k.script
 script_from n k (bytes ∷ lines) = going_on n (after_line k bytes) (λ next. script_from (n + 1) next lines)

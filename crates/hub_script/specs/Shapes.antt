@@ -3,11 +3,11 @@
 use Rattle.std.specs.Prelude.{ℕ, List, [], ◌∷◌, Bool, Option, is_some, Result, ⊤, codes, bytes_eq, find}
 use Rattle.std.specs.List.{list_any}
 use Rattle.hub_envelope.specs.declared.body.BodyError.{BodyError}
-use Rattle.hub_life.specs.declared.event.Event.{Event as LifeEvent}
-use Rattle.hub_origin.specs.declared.origin_error.OriginError.{OriginError}
+use Rattle.hub_life.specs.declared.life.Event.{Event as LifeEvent}
+use Rattle.hub_origin.specs.declared.origin.OriginError.{OriginError}
 use Rattle.serde_json.specs.Data.{Data}
 use Rattle.serde_json.specs.Find.{get}
-use Rattle.hub_script.specs.declared.agent_kind.AgentKind.{AgentKind}
+use Rattle.hub_script.specs.declared.script.AgentKind.{AgentKind}
 use Rattle.hub_script.specs.declared.form.Form.{Form}
 use Rattle.hub_script.specs.declared.form.Form.TheVariants as form
 use Rattle.hub_script.specs.declared.form.ActionForm.TheVariants as action
@@ -53,7 +53,7 @@ FormOf (field ∷ fields) = FieldValue field.1 → FormOf fields
 pub data Shape : Type 0 where
   shape : (fields : Fields) → FormOf fields → Shape
 
--- the form that is told by the keyword, which is its first field
+-- the form that the keyword stands for, which is its first field
 abbrev pub shape_of : Keyword → Shape
 shape_of Agent = shape ((codes "agent", KIND) ∷ (codes "origin", URL) ∷ []) (λ kind origin. form.Agent kind origin)
 shape_of Channel = shape ((codes "channel", PAIR) ∷ (codes "at", NUMBER) ∷ []) (λ names at. form.Channel names.0 names.1 at)
@@ -78,13 +78,13 @@ abbrev pub first_name : Fields → List ℕ
 first_name [] = []
 first_name (field ∷ fields) = field.0
 
--- the field by which the form is told
-abbrev pub word_of : Keyword → List ℕ
-word_of k = first_name (fields_of (shape_of k))
+-- the keyword of the form
+abbrev pub form_word : Keyword → List ℕ
+form_word k = first_name (fields_of (shape_of k))
 
 -- the first keyword that the object has as a field
 abbrev pub keyword_of : Data → Option Keyword
-keyword_of d = find (λ k. is_some (get (word_of k) d)) KEYWORDS
+keyword_of d = find (λ k. is_some (get (form_word k) d)) KEYWORDS
 
 -- one of the form's fields has that name
 abbrev pub has_name : Keyword → List ℕ → Bool

@@ -7,8 +7,8 @@ use Rattle.serde_json.specs.Read.{read}
 use Rattle.hub_origin.specs.Origin.{origin_answer}
 use Rattle.hub_envelope.specs.Answer.{answer_to}
 use Rattle.hub_life.specs.Word.{event_of}
-use Rattle.hub_script.specs.declared.agent_kind.AgentKind.{AgentKind}
-use Rattle.hub_script.specs.declared.agent_kind.AgentKind.TheVariants.{Window, Worker}
+use Rattle.hub_script.specs.declared.script.AgentKind.{AgentKind}
+use Rattle.hub_script.specs.declared.script.AgentKind.TheVariants.{Window, Worker}
 use Rattle.hub_script.specs.declared.form.Form.{Form}
 use Rattle.hub_script.specs.declared.keyword.Keyword.{Keyword}
 use Rattle.hub_script.specs.Shapes.{BODY, EVENT, FieldType, FieldValue, Fields, FormOf, KIND, LIST, NUMBER, PAIR, QUEUE_WORD, Shape, TEXT, URL, has_name, shape, shape_of}
@@ -30,16 +30,16 @@ kind_word Window = codes "window"
 kind_word Worker = codes "worker"
 
 -- the JSON value shows this, as what a field may have
-abbrev pub Shows : (t : FieldType) → FieldValue t → Data → Type 0
-Shows TEXT text d = d ≡ string text
-Shows NUMBER n d = (d ≡ number (unsigned n)) × (n < 2 ^ 32)
-Shows KIND kind d = d ≡ string (kind_word kind)
-Shows URL answer d = (url : List ℕ) × (d ≡ string url) × (answer ≡ origin_answer url)
-Shows PAIR texts d = d ≡ array (strings (texts.0 ∷ texts.1 ∷ []))
-Shows BODY answer d = answer ≡ answer_to (Some d)
-Shows LIST texts d = d ≡ array (strings texts)
-Shows QUEUE_WORD queue d = d ≡ string (codes "queue")
-Shows EVENT event d = (word : List ℕ) × (d ≡ string word) × (event_of word ≡ Some event)
+abbrev pub ShowsField : (t : FieldType) → FieldValue t → Data → Type 0
+ShowsField TEXT text d = d ≡ string text
+ShowsField NUMBER n d = (d ≡ number (unsigned n)) × (n < 2 ^ 32)
+ShowsField KIND kind d = d ≡ string (kind_word kind)
+ShowsField URL answer d = (url : List ℕ) × (d ≡ string url) × (answer ≡ origin_answer url)
+ShowsField PAIR texts d = d ≡ array (strings (texts.0 ∷ texts.1 ∷ []))
+ShowsField BODY answer d = answer ≡ answer_to (Some d)
+ShowsField LIST texts d = d ≡ array (strings texts)
+ShowsField QUEUE_WORD queue d = d ≡ string (codes "queue")
+ShowsField EVENT event d = (word : List ℕ) × (d ≡ string word) × (event_of word ≡ Some event)
 
 -- only a list may be missing, and then it is that of no texts
 abbrev pub MayMiss : (t : FieldType) → FieldValue t → Type 0
@@ -48,7 +48,7 @@ MayMiss t value = ⊥
 
 -- the field shows this
 abbrev pub IsField : (t : FieldType) → List ℕ → Data → FieldValue t → Type 0
-IsField t name d value = ((shown : Data) × (get name d ≡ Some shown) × Shows t value shown) ⊎ ((get name d ≡ None) × MayMiss t value)
+IsField t name d value = ((shown : Data) × (get name d ≡ Some shown) × ShowsField t value shown) ⊎ ((get name d ≡ None) × MayMiss t value)
 
 -- the form is made of what the fields show
 abbrev pub HasFields : (fields : Fields) → FormOf fields → Data → Form → Type 0

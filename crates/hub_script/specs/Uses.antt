@@ -1,6 +1,6 @@
 -- What a form declares, names and transfers.
 use Rattle.std.specs.Prelude.{ℕ, List, [], ◌∷◌, Option, Some, None, Result, codes, bytes_eq, if◌then◌else◌}
-use Rattle.hub_origin.specs.declared.origin_error.OriginError.{OriginError}
+use Rattle.hub_origin.specs.declared.origin.OriginError.{OriginError}
 use Rattle.hub_envelope.specs.declared.body.BodyError.{BodyError}
 use Rattle.hub_script.specs.declared.form.Form.{Form}
 use Rattle.hub_script.specs.declared.form.Form.TheVariants as form
@@ -68,6 +68,6 @@ body_of (form.Action at (Cast member body)) = Some body
 body_of f = None
 
 -- the answer to the URL, where the form has one
-abbrev pub url_of : Form → Option (Result (List ℕ) OriginError)
-url_of (form.Agent kind origin) = Some origin
-url_of f = None
+abbrev pub form_url : Form → Option (Result (List ℕ) OriginError)
+form_url (form.Agent kind origin) = Some origin
+form_url f = None

@@ -4,7 +4,7 @@ ghost use Rattle.std.specs.Prelude.{◌≡◌, ◌<◌, ◌≤◌, length, true}
 ghost use Rattle.hub_envelope.specs.declared.limits.TheConstants.{MAX_AGENTS, MAX_PORTS};
 ghost use Rattle.hub_envelope.specs.declared.limits.TheConstants.{MAX_SCRIPT_LINES};
 ghost use Rattle.hub_text.specs.Reading.{IsReadAs};
-ghost use Rattle.hub_script.specs.Contents.{agents, line_count};
+ghost use Rattle.hub_script.specs.Contents.{declared_agents, line_count};
 ghost use Rattle.hub_script.specs.Context.{adding, adding_action, adding_agent, adding_channel};
 ghost use Rattle.hub_script.specs.Context.{adding_member, after_form, casting, is_within};
 ghost use Rattle.hub_script.specs.Context.{posting, sending, start_of, value_or};
@@ -12,11 +12,10 @@ ghost use Rattle.hub_script.specs.Fields.{IsRead};
 ghost use Rattle.hub_script.specs.Uses.{transferred};
 
 use crate::action::ActionKind;
-use crate::agent_kind::AgentKind;
-use crate::declaration::{DeclaredAgent, DeclaredChannel, DeclaredMember};
+use crate::error::ScriptError;
+use crate::fields::QUEUE;
 use crate::form::{ActionForm, Form};
-use crate::limits::QUEUE;
-use crate::script_error::ScriptError;
+use crate::script::{AgentKind, DeclaredAgent, DeclaredChannel, DeclaredMember};
 use crate::script_reader::{ScriptReader, queue_of};
 use hub_envelope::{AgentId, Body, BodyError, EndId, Items, Text};
 use hub_origin::{Origin, OriginError};
@@ -35,7 +34,7 @@ fn body_or(answer: Result<Body, BodyError>) -> Result<Body, ScriptError>
 impl ScriptReader {
     ghost use Rattle.hub_script.specs.Reader.{known};
 
-    /// Adds what a script line of that form says, or tells the first test that it fails. After an
+    /// Adds what a script line of that form says, or answers the first test that it fails. After an
     /// error nothing is known of the reader.
     #[tactic(auto, unfolding(crate::specs::Context::after_form))]
     pub(crate) fn add_form(&mut self, alloc: Global, form: Form) -> Result<(), ScriptError>
@@ -69,7 +68,7 @@ impl ScriptReader {
         origin: Result<Origin, OriginError>,
     ) -> Result<(), ScriptError>
         requires room { line_count (known self.old).script < MAX_SCRIPT_LINES }
-        requires seat { length (agents (known self.old).script) < MAX_AGENTS }
+        requires seat { length (declared_agents (known self.old).script) < MAX_AGENTS }
         ensures { IsReadAs ScriptError.OutOfMemory (λ _. known self.new) result
             (adding_agent (known self.old) kind origin) }
     {
@@ -176,11 +175,11 @@ impl ScriptReader {
         ensures { IsReadAs ScriptError.OutOfMemory (λ _. known self.new) result
             (posting (known self.old) agent port.now body transfer.now) }
     {
-        let source = self.named(port)?;
+        let source = self.named_end(port)?;
         let ports = self.ends_named(alloc, transfer)?;
         let body = body_or(body)?;
         let transfer = self.ends_of(alloc, ports.as_slice())?;
-        let port = self.end_of(source);
+        let port = self.declared_end(source);
         self.act(
             agent,
             ActionKind::Post {
@@ -234,9 +233,9 @@ impl ScriptReader {
         ensures { IsReadAs ScriptError.OutOfMemory (λ _. known self.new) result
             (casting (known self.old) agent member.now body) }
     {
-        let named = self.named(member)?;
+        let named = self.named_end(member)?;
         let body = body_or(body)?;
-        let member = self.end_of(named);
+        let member = self.declared_end(named);
         self.act(agent, ActionKind::Cast { member, body })
     }
 
@@ -256,7 +255,7 @@ impl ScriptReader {
         if name.as_str() == QUEUE {
             Ok(queue_of(agent))
         } else {
-            Ok(self.end_of(self.named(name)?))
+            Ok(self.declared_end(self.named_end(name)?))
         }
     }
 
@@ -265,8 +264,8 @@ impl ScriptReader {
         ensures { IsReadAs ScriptError.OutOfMemory (λ _. known self.new) result
             (adding_action (known self.old) agent (ActionForm.Close name.now)) }
     {
-        let named = self.named(name)?;
-        let end = self.end_of(named);
+        let named = self.named_end(name)?;
+        let end = self.declared_end(named);
         self.act(agent, ActionKind::Close { end })?;
         self.give(agent, named);
         Ok(())
@@ -277,8 +276,8 @@ impl ScriptReader {
         ensures { IsReadAs ScriptError.OutOfMemory (λ _. known self.new) result
             (adding_action (known self.old) agent (ActionForm.Receive name.now)) }
     {
-        let named = self.named(name)?;
-        let port = self.end_of(named);
+        let named = self.named_end(name)?;
+        let port = self.declared_end(named);
         self.act(agent, ActionKind::Receive { port })?;
         self.take(agent, named)
     }

@@ -10,14 +10,16 @@ ghost use Rattle.serde_json.specs.Data.{depth};
 ghost use Rattle.serde_json.specs.Read.{max_depth};
 ghost use Rattle.serde_json.specs.View.{view};
 
-use crate::agent_kind::AgentKind;
-use crate::limits::QUEUE;
-use crate::script_error::ScriptError;
+use crate::error::ScriptError;
+use crate::script::AgentKind;
 use hub_envelope::{Body, BodyError, Items, Text};
 use hub_life::Event;
 use hub_origin::{Origin, OriginError, origin_of};
 use serde_json::Value;
 use std::alloc::Global;
+
+/// The name that stands for an agent's own queue. No port or member can have it.
+pub(crate) const QUEUE: &str = "queue";
 
 fn value_in<'a>(line: &'a Value, name: &str) -> Result<&'a Value, ScriptError>
     ensures { IsReadAs ScriptError.OutOfMemory (λ v. view v.now) result
@@ -65,7 +67,7 @@ pub(crate) fn kind_in(line: &Value, name: &str) -> Result<AgentKind, ScriptError
     }
 }
 
-/// What `origin_of` answers, but for want of memory.
+/// What `origin_of` answers, unless memory runs out.
 pub(crate) fn url_in(
     alloc: Global,
     line: &Value,
@@ -91,7 +93,7 @@ pub(crate) fn pair_in(alloc: Global, line: &Value, name: &str) -> Result<(Text, 
     }
 }
 
-/// What the value is answered as a body, but for want of memory.
+/// What `Body::read` answers of the value's text, unless memory runs out.
 pub(crate) fn body_in(
     alloc: Global,
     line: &Value,
@@ -105,7 +107,7 @@ pub(crate) fn body_in(
     body_answer(alloc, text.as_str())
 }
 
-/// What `Body::read` answers, but for want of memory.
+/// What `Body::read` answers, unless memory runs out.
 fn body_answer(alloc: Global, text: &str) -> Result<Result<Body, BodyError>, ScriptError>
     ensures { IsRead result (Ok (answer_of text.now)) }
 {

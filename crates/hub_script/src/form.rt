@@ -1,4 +1,4 @@
-use crate::agent_kind::AgentKind;
+use crate::script::AgentKind;
 use hub_envelope::{Body, BodyError, Items, Text};
 use hub_life::Event;
 use hub_origin::{Origin, OriginError};

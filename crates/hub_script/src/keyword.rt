@@ -1,10 +1,10 @@
 ghost use Rattle.std.specs.Prelude.{◌≡◌};
-ghost use Rattle.hub_script.specs.Shapes.{has_name, keyword_of, word_of};
+ghost use Rattle.hub_script.specs.Shapes.{has_name, keyword_of, form_word};
 ghost use Rattle.serde_json.specs.View.{view};
 
 use serde_json::Value;
 
-/// The field by which a form of script line is told. Each form has one of them.
+/// The field that says which form a script line has. Each form has one of them.
 #[derive(Clone, Copy, Debug, PartialEq, Eq)]
 pub(crate) enum Keyword {
     Agent,
@@ -55,7 +55,7 @@ impl Keyword {
 
     /// The field's name.
     pub(crate) fn word(self) -> &'static str
-        ensures { result.now ≡ word_of self }
+        ensures { result.now ≡ form_word self }
     {
         match self {
             Keyword::Agent => "agent",
@@ -76,7 +76,7 @@ impl Keyword {
         }
     }
 
-    /// Whether the form that it tells has a field of that name.
+    /// Whether the form with this keyword has a field of that name.
     pub(crate) fn has_field(self, name: &str) -> bool
         ensures { result ≡ has_name self name.now }
     {

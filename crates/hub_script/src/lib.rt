@@ -7,26 +7,17 @@
 
 mod action;
 mod adding;
-mod agent_kind;
-mod declaration;
+mod error;
 mod fields;
 mod form;
 mod keyword;
-mod laws;
-mod limits;
-mod lists;
-mod named;
 mod read;
 mod read_form;
 mod script;
-mod script_error;
 mod script_reader;
 mod testing;
 
 pub use action::{Action, ActionKind};
-pub use agent_kind::AgentKind;
-pub use declaration::{DeclaredAgent, DeclaredChannel, DeclaredMember};
+pub use error::{DataCloneCause, ScriptError};
 pub use hub_envelope::OutOfMemory;
-pub use laws::script_laws;
-pub use script::Script;
-pub use script_error::{DataCloneCause, ScriptError};
+pub use script::{AgentKind, DeclaredAgent, DeclaredChannel, DeclaredMember, Script, script_laws};

@@ -11,12 +11,12 @@ ghost use Rattle.serde_json.specs.Data.{depth};
 ghost use Rattle.serde_json.specs.Read.{max_depth};
 ghost use Rattle.serde_json.specs.View.{view};
 
+use crate::error::ScriptError;
 use crate::fields::{
     body_in, event_in, kind_in, list_in, number_in, pair_in, queue_in, text_in, url_in,
 };
 use crate::form::{ActionForm, Form};
 use crate::keyword::Keyword;
-use crate::script_error::ScriptError;
 use serde_json::Value;
 use std::alloc::Global;
 
@@ -59,7 +59,7 @@ fn object_in(alloc: Global, text: &str) -> Result<Value, ScriptError>
     }
 }
 
-/// The form that is told by the keyword.
+/// The form that the keyword stands for.
 #[tactic(auto, unfolding(crate::specs::Form::form_with))]
 fn form_with(alloc: Global, keyword: Keyword, line: &Value) -> Result<Form, ScriptError>
     requires nests { depth (view line.now) ≤ max_depth }

@@ -1,27 +1,61 @@
 ghost use Rattle.std.specs.Prelude.{◌≡◌, ◌<◌, ◌≤◌, [], length, map, nat_lt, IfOk, Ok};
 ghost use Rattle.hub_text.specs.Reading.{IsReadAs};
-ghost use Rattle.hub_script.specs.Contents.{actions, agents, line_count, with_agent, with_channel};
+ghost use Rattle.hub_script.specs.Contents.{actions, declared_agents, line_count, with_declared, with_channel};
 ghost use Rattle.hub_script.specs.Contents.{with_member};
-ghost use Rattle.hub_script.specs.Context.{acting, agent_of, ends_from, has_agent, has_no_action};
-ghost use Rattle.hub_script.specs.Context.{has_room, is_agent, is_free, is_held, is_member};
-ghost use Rattle.hub_script.specs.Context.{is_port, named};
+ghost use Rattle.hub_script.specs.Context.{acting, agent_of, declared_ends, has_agent, has_no_action};
+ghost use Rattle.hub_script.specs.Context.{has_room, is_agent, is_unused, holds_named, is_member};
+ghost use Rattle.hub_script.specs.Context.{is_port, named_end};
 ghost use Rattle.hub_script.specs.Fields.{IsRead};
-ghost use Rattle.hub_script.specs.Known.{declaring, end_of, giving, giving_all, holding, naming};
+ghost use Rattle.hub_script.specs.Known.{declaring, declared_end, giving, giving_all, holding, naming_more};
 ghost use Rattle.hub_script.specs.Known.{next_member, next_port, nothing, queue_of, second_port};
-ghost use Rattle.hub_script.specs.Known.{taking, with_handed, with_holds, with_names, with_script};
+ghost use Rattle.hub_script.specs.Known.{taking_more, with_handed, with_holds, with_names, with_script};
 
 use crate::action::{Action, ActionKind};
-use crate::agent_kind::AgentKind;
-use crate::declaration::{DeclaredAgent, DeclaredChannel, DeclaredMember};
-use crate::limits::QUEUE;
-use crate::named::{Holding, NameKind, NamedEnd};
-use crate::script::Script;
-use crate::script_error::ScriptError;
+use crate::error::ScriptError;
+use crate::fields::QUEUE;
+use crate::script::{AgentKind, DeclaredAgent, DeclaredChannel, DeclaredMember, Script};
 use hub_envelope::{
     AgentId, EndId, Items, MAX_AGENTS, MAX_PORTS, MAX_SCRIPT_LINES, OutOfMemory, Ports, Text,
 };
 use std::alloc::Global;
 use std::collections::{BTreeMap, BTreeSet};
+
+/// What a name of a script names.
+#[derive(Clone, Copy, Debug, PartialEq, Eq)]
+pub(crate) enum NameKind {
+    Port,
+    Member,
+}
+
+/// A port or a member that was declared. How many names a script has, and so each number here, is
+/// bounded by its text lines.
+#[derive(Clone, Copy, Debug)]
+pub(crate) struct NamedEnd {
+    pub(crate) kind: NameKind,
+    /// How many of its kind were declared before it.
+    pub(crate) place: u16,
+    /// How many names were declared before it.
+    pub(crate) number: u16,
+}
+
+/// That the agent of that number holds the name of that number.
+#[derive(Clone, Copy, Debug, PartialEq, Eq, PartialOrd, Ord)]
+pub(crate) struct NameHolder {
+    pub(crate) agent: u32,
+    pub(crate) number: u16,
+}
+
+impl NameHolder {
+    /// That the agent holds what was named.
+    fn of(agent: AgentId, named: NamedEnd) -> NameHolder
+        ensures { result ≡ holding agent named }
+    {
+        NameHolder {
+            agent: u32::from(agent.0),
+            number: named.number,
+        }
+    }
+}
 
 /// What the script lines read so far say. The maps keep, for quick look-ups, what follows from the
 /// lines: what each name names, who holds it, and which agents have handed their queue on.
@@ -29,7 +63,7 @@ use std::collections::{BTreeMap, BTreeSet};
 pub(crate) struct ScriptReader {
     script: Script,
     names: BTreeMap<String, NamedEnd>,
-    held: BTreeSet<Holding>,
+    held: BTreeSet<NameHolder>,
     handed: BTreeSet<u32>,
 }
 
@@ -38,16 +72,6 @@ pub(crate) fn queue_of(agent: AgentId) -> EndId
     ensures { result ≡ queue_of agent }
 {
     EndId(u32::from(agent.0))
-}
-
-/// That the agent holds what was named.
-fn holding(agent: AgentId, named: NamedEnd) -> Holding
-    ensures { result ≡ holding agent named }
-{
-    Holding {
-        agent: u32::from(agent.0),
-        number: named.number,
-    }
 }
 
 impl ScriptReader {
@@ -87,14 +111,14 @@ impl ScriptReader {
 
     /// The script has room for an agent more.
     pub(crate) fn has_seat(&self) -> bool
-        ensures { result ≡ nat_lt (length (agents (known self.now).script)) MAX_AGENTS }
+        ensures { result ≡ nat_lt (length (declared_agents (known self.now).script)) MAX_AGENTS }
     {
         self.script.agents().len() < MAX_AGENTS
     }
 
     /// The name isn't reserved, and isn't declared yet.
-    pub(crate) fn is_free(&self, name: &Text) -> bool
-        ensures { result ≡ is_free (known self.now) name.now }
+    pub(crate) fn is_unused(&self, name: &Text) -> bool
+        ensures { result ≡ is_unused (known self.now) name.now }
     {
         name.as_str() != QUEUE && !self.names.contains_key(name.as_str())
     }
@@ -135,8 +159,8 @@ impl ScriptReader {
     }
 
     /// What the name names, where it is declared.
-    pub(crate) fn named(&self, name: &Text) -> Result<NamedEnd, ScriptError>
-        ensures { IsRead result (named (known self.now) name.now) }
+    pub(crate) fn named_end(&self, name: &Text) -> Result<NamedEnd, ScriptError>
+        ensures { IsRead result (named_end (known self.now) name.now) }
     {
         match self.look_up(name) {
             Some(named) => Ok(named),
@@ -163,11 +187,11 @@ impl ScriptReader {
     }
 
     /// The agent of that number holds what the name names.
-    pub(crate) fn is_held(&self, agent: u32, name: &Text) -> bool
-        ensures { result ≡ is_held (known self.now) agent name.now }
+    pub(crate) fn holds_named(&self, agent: u32, name: &Text) -> bool
+        ensures { result ≡ holds_named (known self.now) agent name.now }
     {
         match self.look_up(name) {
-            Some(named) => self.held.contains(&Holding {
+            Some(named) => self.held.contains(&NameHolder {
                 agent,
                 number: named.number,
             }),
@@ -182,19 +206,19 @@ impl ScriptReader {
         names: &Items<Text>,
     ) -> Result<Vec<NamedEnd>, ScriptError>
         ensures says { IsReadAs ScriptError.OutOfMemory (λ x. x.items) result
-            (ends_from (known self.now) [] names.now) }
+            (declared_ends (known self.now) [] names.now) }
         ensures each { IfOk result (λ x. length x.items ≡ length names.now) }
     {
         let mut ends = Vec::new(alloc);
         for name in names.as_slice() {
-            ends.push(self.named(name)?)?;
+            ends.push(self.named_end(name)?)?;
         }
         Ok(ends)
     }
 
     /// The number of the port or member as an end.
-    pub(crate) fn end_of(&self, named: NamedEnd) -> EndId
-        ensures { result ≡ end_of (known self.now).script named }
+    pub(crate) fn declared_end(&self, named: NamedEnd) -> EndId
+        ensures { result ≡ declared_end (known self.now).script named }
     {
         let before = match named.kind {
             NameKind::Port => self.script.agents().len(),
@@ -206,7 +230,7 @@ impl ScriptReader {
     /// The numbers of the ports as ends.
     pub(crate) fn ends_of(&self, alloc: Global, ports: &[NamedEnd]) -> Result<Ports, ScriptError>
         requires few { length ports.now ≤ MAX_PORTS }
-        ensures { IsRead result (Ok (map (end_of (known self.now).script) ports.now)) }
+        ensures { IsRead result (Ok (map (declared_end (known self.now).script) ports.now)) }
     {
         let ends = self.numbers_of(alloc, ports)?;
         Ok(Ports::of_list(ends).unwrap())
@@ -214,9 +238,12 @@ impl ScriptReader {
 
     fn numbers_of(&self, alloc: Global, ports: &[NamedEnd]) -> Result<Vec<EndId>, OutOfMemory>
         ensures { IfOk result
-            (λ ends. ends.items ≡ map (end_of (known self.now).script) ports.now) }
+            (λ ends. ends.items ≡ map (declared_end (known self.now).script) ports.now) }
     {
-        ports.iter().map(|port| self.end_of(*port)).collect(alloc)
+        ports
+            .iter()
+            .map(|port| self.declared_end(*port))
+            .collect(alloc)
     }
 
     /// Whether the agent of that number has handed its queue on.
@@ -261,9 +288,9 @@ impl ScriptReader {
 
     pub(crate) fn push_agent(&mut self, agent: DeclaredAgent) -> Result<(), ScriptError>
         requires room { line_count (known self.old).script < MAX_SCRIPT_LINES }
-        requires seat { length (agents (known self.old).script) < MAX_AGENTS }
+        requires seat { length (declared_agents (known self.old).script) < MAX_AGENTS }
         ensures { IsReadAs ScriptError.OutOfMemory (λ _. known self.new) result
-            (Ok (with_script (known self.old) (with_agent (known self.old).script agent))) }
+            (Ok (with_script (known self.old) (with_declared (known self.old).script agent))) }
     {
         self.script.push_agent(agent)?;
         Ok(())
@@ -300,9 +327,9 @@ impl ScriptReader {
     /// The agent holds the name from now on.
     pub(crate) fn take(&mut self, agent: AgentId, named: NamedEnd) -> Result<(), ScriptError>
         ensures { IsReadAs ScriptError.OutOfMemory (λ _. known self.new) result
-            (Ok (with_holds (known self.old) (taking (holding agent named)))) }
+            (Ok (with_holds (known self.old) (taking_more (holding agent named)))) }
     {
-        self.held.insert(holding(agent, named))?;
+        self.held.insert(NameHolder::of(agent, named))?;
         Ok(())
     }
 
@@ -310,7 +337,7 @@ impl ScriptReader {
     pub(crate) fn give(&mut self, agent: AgentId, named: NamedEnd)
         ensures { known self.new ≡ with_holds (known self.old) (giving (holding agent named)) }
     {
-        self.held.remove(&holding(agent, named));
+        self.held.remove(&NameHolder::of(agent, named));
     }
 
     /// The agent doesn't hold the ports any more.
@@ -350,7 +377,7 @@ impl ScriptReader {
 
     fn set_name(&mut self, alloc: Global, name: &Text, named: NamedEnd) -> Result<(), ScriptError>
         ensures { IsReadAs ScriptError.OutOfMemory (λ _. known self.new) result
-            (Ok (with_names (known self.old) (naming name.now named (known self.old).names))) }
+            (Ok (with_names (known self.old) (naming_more name.now named (known self.old).names))) }
     {
         let key = String::from_str(alloc, name.as_str())?;
         self.names.insert(key, named)?;

@@ -1,5 +1,5 @@
 //! The tests of a form behind what is known. They stand in the order in which they are made, so
-//! that the first that fails is told.
+//! that the first that fails is the answer.
 
 ghost use Rattle.std.specs.Prelude.{◌≡◌, ◌<◌, true, OnOk};
 ghost use Rattle.std.specs.List.{list_all};
@@ -7,17 +7,16 @@ ghost use Rattle.hub_envelope.specs.declared.limits.TheConstants.{MAX_SCRIPT_LIN
 ghost use Rattle.hub_text.specs.Reading.{IsReadAs};
 ghost use Rattle.hub_script.specs.Contents.{line_count};
 ghost use Rattle.hub_script.specs.Context.{are_known, has_agent, has_twice, holds_list};
-ghost use Rattle.hub_script.specs.Context.{is_held, is_member, is_placed, is_port, is_small};
+ghost use Rattle.hub_script.specs.Context.{holds_named, is_member, is_placed, is_port, is_small};
 ghost use Rattle.hub_script.specs.Context.{is_timely, is_within, lists_source, may_start_queue};
-ghost use Rattle.hub_script.specs.Context.{require, run, tests};
+ghost use Rattle.hub_script.specs.Context.{require, run, tests, stands_in};
 ghost use Rattle.hub_script.specs.Uses.{agents_named, members_named, names_used, others_named};
 ghost use Rattle.hub_script.specs.Uses.{ports_named, transfer_of};
 
-use crate::agent_kind::AgentKind;
+use crate::error::{DataCloneCause, ScriptError};
+use crate::fields::QUEUE;
 use crate::form::{ActionForm, Form};
-use crate::limits::QUEUE;
-use crate::lists::{has_twice, stands_in};
-use crate::script_error::{DataCloneCause, ScriptError};
+use crate::script::AgentKind;
 use crate::script_reader::ScriptReader;
 use hub_envelope::{Body, BodyError, Items, MAX_PORTS, Text};
 
@@ -100,11 +99,11 @@ impl ScriptReader {
             Form::Agent { .. } => self.declares(),
             Form::Channel { first, second, .. } => {
                 self.declares()
-                    && self.is_free(first)
-                    && self.is_free(second)
+                    && self.is_unused(first)
+                    && self.is_unused(second)
                     && first.as_str() != second.as_str()
             }
-            Form::Member { name, .. } => self.declares() && self.is_free(name),
+            Form::Member { name, .. } => self.declares() && self.is_unused(name),
             Form::Action { at, action } => self.is_timely(*at, action),
         }
     }
@@ -204,16 +203,16 @@ impl ScriptReader {
     #[tactic(auto, using(crate::proofs::Tests::and_true))]
     fn are_held(&self, form: &Form) -> bool
         ensures { result
-            ≡ list_all (λ used. is_held (known self.now) used.0 used.1) (names_used form.now) }
+            ≡ list_all (λ used. holds_named (known self.now) used.0 used.1) (names_used form.now) }
     {
         let Form::Action { at, action } = form else {
             return true;
         };
         match action {
-            ActionForm::Post { port, .. } => self.is_held(*at, port),
-            ActionForm::Cast { member, .. } => self.is_held(*at, member),
-            ActionForm::Start { name } => name.as_str() == QUEUE || self.is_held(*at, name),
-            ActionForm::Close { name } => self.is_held(*at, name),
+            ActionForm::Post { port, .. } => self.holds_named(*at, port),
+            ActionForm::Cast { member, .. } => self.holds_named(*at, member),
+            ActionForm::Start { name } => name.as_str() == QUEUE || self.holds_named(*at, name),
+            ActionForm::Close { name } => self.holds_named(*at, name),
             _ => true,
         }
     }
@@ -232,12 +231,12 @@ impl ScriptReader {
     }
 
     fn holds_all(&self, agent: u32, names: &Items<Text>) -> bool
-        ensures { result ≡ list_all (is_held (known self.now) agent) names.now }
+        ensures { result ≡ list_all (holds_named (known self.now) agent) names.now }
     {
         names
             .as_slice()
             .iter()
-            .all(|name| self.is_held(agent, name))
+            .all(|name| self.holds_named(agent, name))
     }
 
     /// Agents, listed ports and bodies are within their limits.
@@ -258,4 +257,26 @@ impl ScriptReader {
             _ => true,
         }
     }
+}
+
+/// Whether the name stands in the list.
+pub(crate) fn stands_in(name: &Text, names: &[Text]) -> bool
+    ensures { result ≡ stands_in name.now names.now }
+{
+    names.iter().any(|other| other.as_str() == name.as_str())
+}
+
+/// Whether some name stands twice in the list. It takes time that grows with the square of the
+/// list up to the first name that does.
+pub(crate) fn has_twice(names: &[Text]) -> bool
+    ensures { result ≡ has_twice names.now }
+{
+    let mut rest = names;
+    while let Some((first, others)) = rest.split_first() {
+        if stands_in(first, others) {
+            return true;
+        }
+        rest = others;
+    }
+    false
 }

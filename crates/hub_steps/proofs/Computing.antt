@@ -20,14 +20,14 @@ use Rattle.hub_core.specs.Legal.{LegalAfter}
 use Rattle.hub_core.specs.Shows.{Shows, FitsAndShows}
 use Rattle.hub_steps.specs.declared.shown.Shown.{Shown}
 use Rattle.hub_steps.specs.declared.shown.Shown.TheVariants.{Answer, Moving, Doomed, Cast}
-use Rattle.hub_steps.specs.declared.step_line.Poster.{Poster}
+use Rattle.hub_steps.specs.declared.step_line.PosterName.{PosterName}
 use Rattle.hub_steps.specs.declared.step_line.Command.{Command}
 use Rattle.hub_steps.specs.declared.step_line.StepLine.{StepLine}
 use Rattle.hub_steps.specs.Computation.{Computation, MayGive, pair, pure, ask, ask_then, step, step_then, ◌>>=◌}
 use Rattle.hub_steps.specs.Performed.{ComputesAt, PerformsAt}
 use Rattle.hub_steps.specs.Lives.{AllLives}
-use Rattle.hub_steps.specs.Unfolding.{sender_of, on_line, on_line_of, enter, go_on, send_inside, send, post_listing, post_count, post_may, post, start_made, worker, start_worker, start_adopted, adopt, notice_line, tell_inside, tell, close_shown, close_on, close, close_each, close_ports, close_swept, sweep, core_steps, member, cast_inside, line_zero, cast_to, cast_each, cast_all, cast}
-use Rattle.hub_steps.specs.declared.cast_post.CastPost.{CastPost}
+use Rattle.hub_steps.specs.Unfolding.{sender_of, over_line, on_line_of, enter, go_on, send_inside, send, post_listing, post_count, post_may, post, start_made, worker, start_worker, start_adopted, adopt, notice_line, tell_inside, tell, close_shown, close_on, close, close_each, close_ports, close_swept, sweep, core_steps, member, cast_inside, line_zero, cast_over, cast_each, cast_all, cast}
+use Rattle.hub_steps.specs.declared.shown.CastPost.{CastPost}
 
 -- ---- computations in general
 
@@ -82,11 +82,11 @@ asked_then old new f next x y is did = chained old old new (ask f) next x y (ask
 pub performed : {E : Type 0} → (old new : Core) (lives : AllLives) (line : StepLine) (c : Command) (r : Result Shown E) → line.command ≡ c → IfOk r (λ shown. ComputesAt old new (core_steps lives line.memory_refused c) shown) → IfOk r (λ shown. PerformsAt old new lives line shown)
 performed old new lives line c r is did = subst (λ (command : Command). IfOk r (λ shown. ComputesAt old new (core_steps lives line.memory_refused command) shown)) (sym is) did
 
-pub named : (old new : Core) (p : Poster) (s : Sender) (steps : Sender → Computation Shown) (shown : Shown) → ((h : History) → Shows old h → Some s ≡ sender_of p (facts h)) → ComputesAt old new (steps s) shown → ComputesAt old new (on_line_of p steps) shown
-named old new p s steps shown is did = chained old old new (ask (sender_of p)) (on_line steps) (Some s) shown (asked old (sender_of p) (Some s) is) did
+pub named : (old new : Core) (p : PosterName) (s : Sender) (steps : Sender → Computation Shown) (shown : Shown) → ((h : History) → Shows old h → Some s ≡ sender_of p (facts h)) → ComputesAt old new (steps s) shown → ComputesAt old new (on_line_of p steps) shown
+named old new p s steps shown is did = chained old old new (ask (sender_of p)) (over_line steps) (Some s) shown (asked old (sender_of p) (Some s) is) did
 
-pub unnamed : (core : Core) (p : Poster) (steps : Sender → Computation Shown) → ((h : History) → Shows core h → None ≡ sender_of p (facts h)) → ComputesAt core core (on_line_of p steps) (Answer outcome.NotNow)
-unnamed core p steps is = chained core core core (ask (sender_of p)) (on_line steps) None (Answer outcome.NotNow) (asked core (sender_of p) None is) (given core (Answer outcome.NotNow))
+pub unnamed : (core : Core) (p : PosterName) (steps : Sender → Computation Shown) → ((h : History) → Shows core h → None ≡ sender_of p (facts h)) → ComputesAt core core (on_line_of p steps) (Answer outcome.NotNow)
+unnamed core p steps is = chained core core core (ask (sender_of p)) (over_line steps) None (Answer outcome.NotNow) (asked core (sender_of p) None is) (given core (Answer outcome.NotNow))
 
 -- what the arms of a step line of a poster want
 pub ruleset on_lines = (named, unnamed)
@@ -275,7 +275,7 @@ pub pushes_nothing : (core : Core) (refused : Bool) (body : List ℕ) (s : Sende
 pushes_nothing core refused body s outcome.In other = absurd (other refl)
 pushes_nothing core refused body s o other = given core o
 
-pub cast_there : (old first second new : Core) (refused : Bool) (body : List ℕ) (e : EndId) (entered answer left : Outcome) → ComputesAt old first (step refused (action.Enter (line_zero e))) entered → ComputesAt first second (cast_inside refused body (line_zero e) entered) answer → ComputesAt second new (step refused (action.Leave (line_zero e))) left → ComputesAt old new (cast_to refused body e) answer
+pub cast_there : (old first second new : Core) (refused : Bool) (body : List ℕ) (e : EndId) (entered answer left : Outcome) → ComputesAt old first (step refused (action.Enter (line_zero e))) entered → ComputesAt first second (cast_inside refused body (line_zero e) entered) answer → ComputesAt second new (step refused (action.Leave (line_zero e))) left → ComputesAt old new (cast_over refused body e) answer
 cast_there old first second new refused body e entered answer left a b c =
     let s : Sender = line_zero e in
     let last : Outcome → Computation Outcome = λ told. step refused (action.Leave s) >>= λ l. pure told in
@@ -287,13 +287,13 @@ cast_there old first second new refused body e entered answer left a b c =
 abbrev pub CastFirst : Core → Core → ℕ → Bool → List ℕ → List EndId → List CastPost → Type 0
 CastFirst old now done refused body ends posts = (later : Core) (rest : List CastPost) → ComputesAt now later (cast_each refused body (drop done ends)) rest → ComputesAt old later (cast_each refused body ends) (posts ++ rest)
 
-pub cast_more : (done : ℕ) (old now new : Core) (refused : Bool) (body : List ℕ) (ends : List EndId) (e : EndId) (o : Outcome) (posts : List CastPost) → drop done ends ≡ e ∷ drop (suc done) ends → CastFirst old now done refused body ends posts → ComputesAt now new (cast_to refused body e) o → CastFirst old new (done + 1) refused body ends (posts ++ record { end = e; outcome = o } ∷ [])
+pub cast_more : (done : ℕ) (old now new : Core) (refused : Bool) (body : List ℕ) (ends : List EndId) (e : EndId) (o : Outcome) (posts : List CastPost) → drop done ends ≡ e ∷ drop (suc done) ends → CastFirst old now done refused body ends posts → ComputesAt now new (cast_over refused body e) o → CastFirst old new (done + 1) refused body ends (posts ++ record { end = e; outcome = o } ∷ [])
 cast_more done old now new refused body ends e o posts here h did = λ later rest more.
     let left : ComputesAt new later (cast_each refused body (drop (suc done) ends)) rest = subst (λ k. ComputesAt new later (cast_each refused body (drop k ends)) rest) (add-one done) more in
     let p : CastPost = record { end = e; outcome = o } in
     let next : Outcome → Computation (List CastPost) = λ answer. cast_each refused body (drop (suc done) ends) >>= λ others. pure (record { end = e; outcome = answer } ∷ others) in
     let both : ComputesAt now later (cast_each refused body (e ∷ drop (suc done) ends)) (p ∷ rest) =
-    chained now new later (cast_to refused body e) next o (p ∷ rest) did (chained new later later (cast_each refused body (drop (suc done) ends)) (λ others. pure (p ∷ others)) rest (p ∷ rest) left (given later (p ∷ rest)))
+    chained now new later (cast_over refused body e) next o (p ∷ rest) did (chained new later later (cast_each refused body (drop (suc done) ends)) (λ others. pure (p ∷ others)) rest (p ∷ rest) left (given later (p ∷ rest)))
     in
     subst (ComputesAt old later (cast_each refused body ends)) (sym (append_assoc posts (p ∷ []) rest)) (h later (p ∷ rest) (subst (λ es. ComputesAt now later (cast_each refused body es) (p ∷ rest)) (sym here) both))
 

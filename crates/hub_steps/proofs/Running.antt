@@ -5,7 +5,7 @@ use Rattle.std.specs.Io.KnownBytes.{Appends, Keeps}
 use Rattle.hub_core.specs.declared.machine.Core.{Core}
 use Rattle.hub_core.specs.History.{History}
 use Rattle.hub_core.specs.Shows.{Shows}
-use Rattle.hub_engine.specs.declared.device.Device.{Device}
+use Rattle.hub_engine.specs.declared.status.Device.{Device}
 use Rattle.hub_engine.specs.declared.status.ExitStatus.{ExitStatus}
 use Rattle.hub_engine.specs.declared.status.ExitStatus.TheVariants as exit
 use Rattle.hub_steps.specs.declared.step_line.StepLine.{StepLine}
@@ -15,7 +15,7 @@ use Rattle.hub_steps.specs.ShownText.{shown_line}
 use Rattle.hub_steps.specs.Lives.{AllLives, lives_after}
 use Rattle.hub_steps.specs.Performed.{Performs, PerformsAt}
 use Rattle.hub_steps.specs.StepText.{Runs, IsStepText}
-use Rattle.hub_steps.specs.UnderWay.{AreRun, AreTold}
+use Rattle.hub_steps.specs.UnderWay.{AreRun, AreLinesTold}
 use Rattle.hub_engine.specs.OutOfMemory.{out_of_memory}
 use Rattle.hub_engine.specs.Engine.{Says, Writes}
 use Rattle.hub_steps.specs.Output.{IsCutShort, IsRunOutput}
@@ -34,7 +34,7 @@ runs_more past lives (l ∷ lines) text h last line more shown r p =
 pub is_text : {core : Core} {lives : AllLives} {text : List ℕ} {lines : List StepLine} → (r : AreRun core lives text lines) → IsStepText lines text
 is_text {core = core} {lives = lives} r = record { history = r.history; lives = lives; runs = r.runs; legal = r.legal; in_order = shows_in_order core r.history r.shows }
 
-told_as : {old now : Option (List ℕ)} {core : Core} {lives : AllLives} {kept : List ℕ} {lines : List StepLine} → (a : AreTold old now core lives kept lines) → a.sent ++ kept ≡ a.sent → IsStepText lines a.sent
+told_as : {old now : Option (List ℕ)} {core : Core} {lives : AllLives} {kept : List ℕ} {lines : List StepLine} → (a : AreLinesTold old now core lives kept lines) → a.sent ++ kept ≡ a.sent → IsStepText lines a.sent
 told_as {lines = lines} a text = subst (IsStepText lines) text (is_text a.run)
 
 pub starts : (core : Core) (lives : AllLives) (kept : List ℕ) → kept ≡ [] → lives ≡ [] → Shows core [] → AreRun core lives kept []
@@ -53,45 +53,45 @@ runs_on core next lives later text longer lines line shown r performs lived e =
       shows = x.2;
     }
 
-pub answers : (old now : Option (List ℕ)) (core next : Core) (lives later : AllLives) (kept longer : List ℕ) (lines : List StepLine) (line : StepLine) (shown : Shown) → AreTold old now core lives kept lines → PerformsAt core next lives line shown → later ≡ lives_after line.command shown lives
-    → longer ≡ kept ++ shown_line shown → AreTold old now next later longer (lines ++ line ∷ [])
+pub answers : (old now : Option (List ℕ)) (core next : Core) (lives later : AllLives) (kept longer : List ℕ) (lines : List StepLine) (line : StepLine) (shown : Shown) → AreLinesTold old now core lives kept lines → PerformsAt core next lives line shown → later ≡ lives_after line.command shown lives
+    → longer ≡ kept ++ shown_line shown → AreLinesTold old now next later longer (lines ++ line ∷ [])
 answers old now core next lives later kept longer lines line shown a performs lived e =
     let text : a.sent ++ longer ≡ (a.sent ++ kept) ++ shown_line shown = ap (λ t. a.sent ++ t) e ∙ sym (append_assoc a.sent kept (shown_line shown)) in
     record { sent = a.sent; run = runs_on core next lives later (a.sent ++ kept) (a.sent ++ longer) lines line shown a.run performs lived text; out = a.out }
 
-pub sends : (old now next : Option (List ℕ)) (core : Core) (lives : AllLives) (kept none : List ℕ) (lines : List StepLine) → AreTold old now core lives kept lines → Appends now next kept → none ≡ [] → AreTold old next core lives none lines
+pub sends : (old now next : Option (List ℕ)) (core : Core) (lives : AllLives) (kept none : List ℕ) (lines : List StepLine) → AreLinesTold old now core lives kept lines → Appends now next kept → none ≡ [] → AreLinesTold old next core lives none lines
 sends old now next core lives kept none lines a out e =
     let text : a.sent ++ kept ≡ (a.sent ++ kept) ++ none = sym (append-nil (a.sent ++ kept)) ∙ ap (λ t. (a.sent ++ kept) ++ t) (sym e) in
     record { sent = a.sent ++ kept; run = subst (λ t. AreRun core lives t lines) text a.run; out = appends_more old now next a.sent kept a.out out }
 
-pub ends : (old now next : Option (List ℕ)) (core : Core) (lives : AllLives) (kept : List ℕ) (lines : List StepLine) → AreTold old now core lives kept lines → kept ≡ [] → Keeps now next → (text : List ℕ) × IsStepText lines text × Appends old next text
+pub ends : (old now next : Option (List ℕ)) (core : Core) (lives : AllLives) (kept : List ℕ) (lines : List StepLine) → AreLinesTold old now core lives kept lines → kept ≡ [] → Keeps now next → (text : List ℕ) × IsStepText lines text × Appends old next text
 ends old now next core lives kept lines a e keeps =
     let text : a.sent ++ kept ≡ a.sent = ap (λ t. a.sent ++ t) e ∙ append-nil a.sent in
     (a.sent, told_as a text, appends_kept old now next a.sent a.out keeps)
 
 -- the text of the first lines, and out of memory
-pub cut_short : (old now : Option (List ℕ)) (core : Core) (lives : AllLives) (kept : List ℕ) (front back lines : List StepLine) → AreTold old now core lives kept front → lines ≡ front ++ back
+pub cut_short : (old now : Option (List ℕ)) (core : Core) (lives : AllLives) (kept : List ℕ) (front back lines : List StepLine) → AreLinesTold old now core lives kept front → lines ≡ front ++ back
     → (said : List ℕ) × IsCutShort lines (said ++ out_of_memory) × (now_sent : List ℕ) × (said ≡ now_sent ++ kept) × Appends old now now_sent
 cut_short old now core lives kept front back lines a e = (a.sent ++ kept, (front, back, a.sent ++ kept, e, is_text a.run, refl), a.sent, refl, a.out)
 
-pub cut_begun : (old now next : Option (List ℕ)) (core : Core) (lives : AllLives) (kept : List ℕ) (front back lines : List StepLine) → AreTold old now core lives kept front → lines ≡ front ++ back → AppendsBeginning now next kept
+pub cut_begun : (old now next : Option (List ℕ)) (core : Core) (lives : AllLives) (kept : List ℕ) (front back lines : List StepLine) → AreLinesTold old now core lives kept front → lines ≡ front ++ back → AppendsBeginning now next kept
     → (text : List ℕ) × IsCutShort lines text × AppendsBeginning old next text
 cut_begun old now next core lives kept front back lines a e b =
     ((a.sent ++ kept) ++ out_of_memory, (front, back, a.sent ++ kept, e, is_text a.run, refl), begins_longer old next (a.sent ++ kept) out_of_memory (begins_after old now next a.sent kept a.out b))
 
-pub cut_ended : (old now next : Option (List ℕ)) (core : Core) (lives : AllLives) (kept : List ℕ) (front back lines : List StepLine) → AreTold old now core lives kept front → lines ≡ front ++ back → kept ≡ [] → Appends now next out_of_memory
+pub cut_ended : (old now next : Option (List ℕ)) (core : Core) (lives : AllLives) (kept : List ℕ) (front back lines : List StepLine) → AreLinesTold old now core lives kept front → lines ≡ front ++ back → kept ≡ [] → Appends now next out_of_memory
     → (text : List ℕ) × IsCutShort lines text × Appends old next text
 cut_ended old now next core lives kept front back lines a e none b =
     let text : a.sent ++ kept ≡ a.sent = ap (λ t. a.sent ++ t) none ∙ append-nil a.sent in
     (a.sent ++ out_of_memory, (front, back, a.sent, e, told_as a text, refl), appends_more old now next a.sent out_of_memory a.out b)
 
-pub cut_ending : (old now next : Option (List ℕ)) (core : Core) (lives : AllLives) (kept : List ℕ) (front back lines : List StepLine) → AreTold old now core lives kept front → lines ≡ front ++ back → kept ≡ [] → AppendsBeginning now next out_of_memory
+pub cut_ending : (old now next : Option (List ℕ)) (core : Core) (lives : AllLives) (kept : List ℕ) (front back lines : List StepLine) → AreLinesTold old now core lives kept front → lines ≡ front ++ back → kept ≡ [] → AppendsBeginning now next out_of_memory
     → (text : List ℕ) × IsCutShort lines text × AppendsBeginning old next text
 cut_ending old now next core lives kept front back lines a e none b =
     let text : a.sent ++ kept ≡ a.sent = ap (λ t. a.sent ++ t) none ∙ append-nil a.sent in
     (a.sent ++ out_of_memory, (front, back, a.sent, e, told_as a text, refl), begins_after old now next a.sent out_of_memory a.out b)
 
-pub cut_writes : (old now next : Option (List ℕ)) (core : Core) (lives : AllLives) (kept : List ℕ) (front back lines : List StepLine) (r : Result ExitStatus Device) → AreTold old now core lives kept front → lines ≡ front ++ back → kept ≡ [] → Writes (Says exit.OutOfMemory out_of_memory) now next r
+pub cut_writes : (old now next : Option (List ℕ)) (core : Core) (lives : AllLives) (kept : List ℕ) (front back lines : List StepLine) (r : Result ExitStatus Device) → AreLinesTold old now core lives kept front → lines ≡ front ++ back → kept ≡ [] → Writes (Says exit.OutOfMemory out_of_memory) now next r
     → Writes (IsRunOutput lines) old next r
 cut_writes old now next core lives kept front back lines (Ok s) a e none w =
     let t = cut_ended old now next core lives kept front back lines a e none (subst (Appends now next) w.1.1 w.2) in
@@ -100,7 +100,7 @@ cut_writes old now next core lives kept front back lines (Err failed) a e none w
     let t = cut_ending old now next core lives kept front back lines a e none (subst (AppendsBeginning now next) w.2.1 w.3) in
     (exit.OutOfMemory, t.0, t.1, t.2)
 
-pub flush_failed : (old now next : Option (List ℕ)) (core : Core) (lives : AllLives) (kept : List ℕ) (front back lines : List StepLine) → AreTold old now core lives kept front → lines ≡ front ++ back → kept ≡ [] → Keeps now next
+pub flush_failed : (old now next : Option (List ℕ)) (core : Core) (lives : AllLives) (kept : List ℕ) (front back lines : List StepLine) → AreLinesTold old now core lives kept front → lines ≡ front ++ back → kept ≡ [] → Keeps now next
     → (text : List ℕ) × IsCutShort lines text × AppendsBeginning old next text
 flush_failed old now next core lives kept front back lines a e none keeps =
     let text : a.sent ++ kept ≡ a.sent = ap (λ t. a.sent ++ t) none ∙ append-nil a.sent in

@@ -2,7 +2,7 @@
 use Rattle.std.proofs.Common.{◌≡◌, ℕ, ◌+◌, List, [], ◌∷◌, ◌++◌, Option, Result, Ok, Err, refl, sym, ap, subst, ◌∙◌, append_assoc, append-nil}
 use Rattle.std.specs.Io.KnownBytes.{Appends, Keeps}
 use Rattle.hub_core.specs.declared.machine.Core.{Core}
-use Rattle.hub_engine.specs.declared.device.Device.{Device}
+use Rattle.hub_engine.specs.declared.status.Device.{Device}
 use Rattle.hub_engine.specs.declared.status.ExitStatus.{ExitStatus}
 use Rattle.hub_engine.specs.Beginning.{AppendsBeginning}
 use Rattle.hub_engine.specs.Engine.{Writes}
@@ -16,7 +16,7 @@ use Rattle.hub_steps.specs.ShownText.{shown_line}
 use Rattle.hub_steps.specs.StepLine.{step_line_of}
 use Rattle.hub_steps.specs.Steps.{at_line, steps_from, ReadSteps}
 use Rattle.hub_steps.specs.StepText.{IsStepText}
-use Rattle.hub_steps.specs.UnderWay.{AreRun, AreTold}
+use Rattle.hub_steps.specs.UnderWay.{AreRun, AreLinesTold}
 use Rattle.hub_steps.proofs.Running.{answers, sends, ends, cut_begun, flush_failed}
 
 -- the step lines were read of the text lines; of a front the text was told, and the others are left
@@ -24,12 +24,12 @@ pub record IsUnderWay (lines : List StepLine) (rest : List (List ℕ)) (old now 
   pub front : List StepLine
   pub back : List StepLine
   pub number : ℕ
-  pub told : AreTold old now core lives kept front
+  pub told : AreLinesTold old now core lives kept front
   pub whole : lines ≡ front ++ back
   pub left : steps_from number rest ≡ Ok back
 
 -- of what was run nothing has gone out
-pub unsent : (old : Option (List ℕ)) (core : Core) (lives : AllLives) (kept : List ℕ) (front : List StepLine) → AreRun core lives kept front → AreTold old old core lives kept front
+pub unsent : (old : Option (List ℕ)) (core : Core) (lives : AllLives) (kept : List ℕ) (front : List StepLine) → AreRun core lives kept front → AreLinesTold old old core lives kept front
 unsent old core lives kept front run = record { sent = []; run = run; out = appends_nothing old }
 
 pub sets_out : (rest : List (List ℕ)) (old : Option (List ℕ)) (core : Core) (lives : AllLives) (kept : List ℕ) (front back : List StepLine) (n : ℕ) → AreRun core lives kept front → steps_from n rest ≡ Ok back → IsUnderWay (front ++ back) rest old old core lives kept
@@ -90,7 +90,7 @@ is_unflushed lines rest old now next core lives kept u none keeps = flush_failed
 
 -- memory ran out, and what cuts a run short did so
 pub is_cut : (lines : List StepLine) (rest : List (List ℕ)) (old now next : Option (List ℕ)) (core : Core) (lives : AllLives) (kept same : List ℕ) (r : Result ExitStatus Device) → same ≡ kept → IsUnderWay lines rest old now core lives kept
-    → ((old : Option (List ℕ)) (core : Core) (lives : AllLives) (front back : List StepLine) → AreTold old now core lives same front → Writes (IsRunOutput (front ++ back)) old next r)
+    → ((old : Option (List ℕ)) (core : Core) (lives : AllLives) (front back : List StepLine) → AreLinesTold old now core lives same front → Writes (IsRunOutput (front ++ back)) old next r)
     → Writes (IsRunOutput lines) old next r
 is_cut lines rest old now next core lives kept same r e u cuts =
-    subst (λ ls. Writes (IsRunOutput ls) old next r) (sym u.whole) (cuts old core lives u.front u.back (subst (λ k. AreTold old now core lives k u.front) (sym e) u.told))
+    subst (λ ls. Writes (IsRunOutput ls) old next r) (sym u.whole) (cuts old core lives u.front u.back (subst (λ k. AreLinesTold old now core lives k u.front) (sym e) u.told))

@@ -1,8 +1,8 @@
 -- The lives of worker agents (W3C Service Workers, "Service Worker"). An agent that makes a worker's queue has one life
 -- from then on, for good.
 use Rattle.std.specs.Prelude.{ℕ, true, false, List, [], ◌∷◌, ◌++◌, Option, Some, None, Result, Ok, Err, option_map, slice_get, slice_set, if◌then◌else◌}
-use Rattle.hub_life.specs.declared.event.Event.{Event}
-use Rattle.hub_life.specs.declared.event.Event.TheVariants.{Terminate}
+use Rattle.hub_life.specs.declared.life.Event.{Event}
+use Rattle.hub_life.specs.declared.life.Event.TheVariants.{Terminate}
 use Rattle.hub_life.specs.declared.life.LifeError.{LifeError}
 use Rattle.hub_life.specs.Lifecycle.{Progress, start, answer}
 use Rattle.hub_life.specs.Course.{after}

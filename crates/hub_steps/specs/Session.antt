@@ -42,12 +42,12 @@ abbrev pub HasRun : Session → List ℕ → List StepLine → Type 0
 HasRun s text lines = AreRun s.run.core s.run.lives text lines
 
 -- what was run before is what was run
-abbrev pub GoesOn : Session → Session → Type 0
-GoesOn old new = (text : List ℕ) (lines : List StepLine) → HasRun old text lines → HasRun new text lines
+abbrev pub GoesOnFrom : Session → Session → Type 0
+GoesOnFrom old new = (text : List ℕ) (lines : List StepLine) → HasRun old text lines → HasRun new text lines
 
 -- and what was said last is said still
 abbrev pub Stays : Session → Session → Type 0
-Stays old new = GoesOn old new × (told new ≡ told old)
+Stays old new = GoesOnFrom old new × (told new ≡ told old)
 
 -- the step line was run after those before, and this is its outcome line
 abbrev pub RunsLine : Session → Session → StepLine → Type 0
@@ -91,8 +91,8 @@ was_run r = false
 abbrev pub Makes : Reply → Session → Session → List ℕ → Type 0
 Makes reply.Ran old new bytes = RunsOn old new bytes
 Makes reply.RanUntold old new bytes = RunsOn old new bytes
-Makes reply.Bad old new bytes = GoesOn old new
-Makes reply.NoMemory old new bytes = GoesOn old new
+Makes reply.Bad old new bytes = GoesOnFrom old new
+Makes reply.NoMemory old new bytes = GoesOnFrom old new
 Makes reply.Lost old new bytes = ⊥
 
 -- the text lines were given to the session in this order, which none of them has lost

@@ -2,7 +2,7 @@
 use Rattle.std.specs.Prelude.{ℕ, List, [], ◌∷◌, ◌++◌, codes}
 use Rattle.hub_steps.specs.declared.shown.Shown.{Shown}
 use Rattle.hub_steps.specs.declared.shown.Shown.TheVariants.{Answer, Moving, Doomed, DoneNoMemory, DoneMoving, BadUrl, OpaqueOrigin, Cast, State, Refused}
-use Rattle.hub_steps.specs.declared.cast_post.CastPost.{CastPost}
+use Rattle.hub_steps.specs.declared.shown.CastPost.{CastPost}
 use Rattle.hub_core.specs.declared.outcome.Outcome.{Outcome}
 use Rattle.hub_core.specs.declared.outcome.Outcome.TheVariants as outcome
 use Rattle.std.specs.List.{flat_map}

@@ -7,14 +7,14 @@ use Rattle.hub_envelope.specs.declared.body.BodyError.{BodyError}
 use Rattle.hub_envelope.specs.declared.ids.AgentId.{AgentId}
 use Rattle.hub_envelope.specs.declared.ids.EndId.{EndId}
 use Rattle.hub_envelope.specs.declared.ids.LineId.{LineId}
-use Rattle.hub_life.specs.declared.event.Event.{Event}
+use Rattle.hub_life.specs.declared.life.Event.{Event}
 use Rattle.hub_life.specs.Word.{event_of}
-use Rattle.hub_text.specs.EndList.{ends_of}
+use Rattle.hub_text.specs.EndList.{ends_listed}
 use Rattle.hub_text.specs.Number as text
 use Rattle.hub_text.specs.Reading.{◌>>=◌, some_or}
 use Rattle.hub_text.specs.Word.{cut}
-use Rattle.hub_steps.specs.declared.step_line.Poster.{Poster}
-use Rattle.hub_steps.specs.declared.step_line.Poster.TheVariants.{Port, Line}
+use Rattle.hub_steps.specs.declared.step_line.PosterName.{PosterName}
+use Rattle.hub_steps.specs.declared.step_line.PosterName.TheVariants.{Port, Line}
 use Rattle.hub_steps.specs.declared.step_line.StepLineError.{StepLineError}
 use Rattle.hub_steps.specs.declared.step_line.PosterCommand.TheVariants.{Enter, Push, Leave, Hop, Back, Post}
 use Rattle.hub_steps.specs.declared.step_line.Command.{Command}
@@ -25,8 +25,8 @@ use Rattle.hub_steps.specs.BodyKind.{body_kind}
 use Rattle.hub_steps.specs.declared.step_line.AgentUrl.{AgentUrl}
 use Rattle.hub_steps.specs.declared.step_line.AgentUrl.TheVariants.{NoUrl, Origin, BadUrl, OpaqueOrigin}
 use Rattle.hub_origin.specs.Origin.{origin_answer}
-use Rattle.hub_origin.specs.declared.origin_error.OriginError.{OriginError}
-use Rattle.hub_origin.specs.declared.origin_error.OriginError.TheVariants as why
+use Rattle.hub_origin.specs.declared.origin.OriginError.{OriginError}
+use Rattle.hub_origin.specs.declared.origin.OriginError.TheVariants as why
 use Rattle.serde_json.specs.Find.{as_str}
 use Rattle.serde_json.specs.Read.{read}
 
@@ -35,31 +35,31 @@ abbrev pub Read : Type 0 → Type 0
 Read X = Result X StepLineError
 
 -- decimal digits without leading zeros, at most 4294967295
-abbrev pub number_of : List ℕ → Option ℕ
-number_of word = text.number_of 4294967295 word
+abbrev pub number_read : List ℕ → Option ℕ
+number_read word = text.number_of 4294967295 word
 
 -- No agent has the number 255, so each number that names no agent is read as that one.
-abbrev pub agent_of : ℕ → AgentId
-agent_of n = record { 0 = (if nat_lt n 256 then n else 255) }
+abbrev pub agent_read : ℕ → AgentId
+agent_read n = record { 0 = (if nat_lt n 256 then n else 255) }
 
 -- No end has a line 255, so each number that names no line is read as that one.
-abbrev pub line_of : ℕ → LineId
-line_of n = record { 0 = (if nat_lt n 256 then n else 255) }
+abbrev pub line_read : ℕ → LineId
+line_read n = record { 0 = (if nat_lt n 256 then n else 255) }
 
 -- the poster that the port of that number holds
-abbrev pub port_named : List ℕ → Option Poster
-port_named word = option_map (λ port. Port (record { 0 = port })) (number_of word)
+abbrev pub port_named : List ℕ → Option PosterName
+port_named word = option_map (λ port. Port (record { 0 = port })) (number_read word)
 
 -- the poster of the line of that number, at the end of that number
-abbrev pub line_named : List ℕ → List ℕ → Option Poster
-line_named end line = option_and_then (λ e. option_map (λ l. Line (record { 0 = e }) (line_of l)) (number_of line)) (number_of end)
+abbrev pub line_named : List ℕ → List ℕ → Option PosterName
+line_named end line = option_and_then (λ e. option_map (λ l. Line (record { 0 = e }) (line_read l)) (number_read line)) (number_read end)
 
-abbrev pub poster_cut : Option (List ℕ × List ℕ) → List ℕ → Option Poster
+abbrev pub poster_cut : Option (List ℕ × List ℕ) → List ℕ → Option PosterName
 poster_cut None word = port_named word
 poster_cut (Some parts) word = line_named parts.0 parts.1
 
 -- a number, for the poster that a port holds; or two numbers with a `/` between, for the poster of a line
-abbrev pub poster_named : List ℕ → Option Poster
+abbrev pub poster_named : List ℕ → Option PosterName
 poster_named word = poster_cut (cut 47 word) word
 
 abbrev pub body_read : Result (List ℕ) BodyError → Read (List ℕ)
@@ -73,12 +73,12 @@ url_told (Err why.OpaqueOrigin) = OpaqueOrigin
 url_told (Err why.OutOfMemory) = BadUrl
 
 -- `-`, or the origin of a URL
-unfoldable pub url_of : List ℕ → AgentUrl
-url_of word = if bytes_eq word (codes "-") then NoUrl else url_told (origin_answer word)
+unfoldable pub url_read : List ℕ → AgentUrl
+url_read word = if bytes_eq word (codes "-") then NoUrl else url_told (origin_answer word)
 
 -- the JSON string that a text is
-unfoldable pub name_of : List ℕ → Read (List ℕ)
-name_of text = some_or BadName (read text) >>= λ value. some_or BadName (as_str value)
+unfoldable pub name_read : List ℕ → Read (List ℕ)
+name_read text = some_or BadName (read text) >>= λ value. some_or BadName (as_str value)
 
 -- the kinds of words, as docs/FORMATS.md spells them
 pub data WordKind : Type 0 where
@@ -103,7 +103,7 @@ pub data WordKind : Type 0 where
 abbrev pub Meaning : WordKind → Type 0
 Meaning A = AgentId
 Meaning E = EndId
-Meaning P = Poster
+Meaning P = PosterName
 Meaning LIST = List EndId
 Meaning WORD = Event
 Meaning U = AgentUrl
@@ -111,15 +111,15 @@ Meaning NAME = List ℕ
 Meaning BODY = List ℕ
 
 -- what a word stands for, or what is wrong with it
-abbrev pub word_of : (kind : WordKind) → List ℕ → Read (Meaning kind)
-word_of A word = some_or BadNumber (option_map agent_of (number_of word))
-word_of E word = some_or BadNumber (option_map (λ n. record { 0 = n }) (number_of word))
-word_of P word = some_or BadPoster (poster_named word)
-word_of LIST word = some_or BadList (ends_of 4294967295 word)
-word_of WORD word = some_or BadEvent (event_of word)
-word_of U word = Ok (url_of word)
-word_of NAME text = name_of text
-word_of BODY text = body_read (answer_of text)
+abbrev pub word_read : (kind : WordKind) → List ℕ → Read (Meaning kind)
+word_read A word = some_or BadNumber (option_map agent_read (number_read word))
+word_read E word = some_or BadNumber (option_map (λ n. record { 0 = n }) (number_read word))
+word_read P word = some_or BadPoster (poster_named word)
+word_read LIST word = some_or BadList (ends_listed 4294967295 word)
+word_read WORD word = some_or BadEvent (event_of word)
+word_read U word = Ok (url_read word)
+word_read NAME text = name_read text
+word_read BODY text = body_read (answer_of text)
 
 -- A name and a body are all that is left of the step line; every other kind is one word.
 abbrev pub is_rest : WordKind → Bool
@@ -164,9 +164,9 @@ cut_into (kind ∷ second ∷ kinds) text = do
 -- what each word stands for, or what is wrong with the first one that is bad
 abbrev pub read_each : (kinds : List WordKind) → Texts kinds → Read (Values kinds)
 read_each [] words = Ok tt
-read_each (kind ∷ []) word = word_of kind word
+read_each (kind ∷ []) word = word_read kind word
 read_each (kind ∷ second ∷ kinds) words = do
-  value ← word_of kind words.0
+  value ← word_read kind words.0
   values ← read_each (second ∷ kinds) words.1
   Ok (value, values)
 

@@ -6,7 +6,7 @@ use Rattle.hub_core.specs.History.{History}
 use Rattle.hub_core.specs.Legal.{Legal}
 use Rattle.hub_core.specs.Shows.{Shows}
 use Rattle.hub_text.specs.TextLines.{text_lines_of}
-use Rattle.hub_steps.specs.declared.run.Held.{Held}
+use Rattle.hub_steps.specs.declared.run.HeldBack.{HeldBack}
 use Rattle.hub_steps.specs.declared.step_line.StepLine.{StepLine}
 use Rattle.hub_steps.specs.Lives.{AllLives}
 use Rattle.hub_steps.specs.Steps.{ReadSteps, steps_from, steps_of}
@@ -20,7 +20,7 @@ pub record AreRun (core : Core) (lives : AllLives) (text : List ℕ) (lines : Li
   pub shows : Shows core history
 
 -- of the text of the lines a front has gone out, and the rest is kept
-pub record AreTold (old now : Option (List ℕ)) (core : Core) (lives : AllLives) (kept : List ℕ) (lines : List StepLine) : Type 0 where
+pub record AreLinesTold (old now : Option (List ℕ)) (core : Core) (lives : AllLives) (kept : List ℕ) (lines : List StepLine) : Type 0 where
   pub sent : List ℕ
   pub run : AreRun core lives (sent ++ kept) lines
   pub out : Appends old now sent
@@ -32,7 +32,7 @@ with_front front (Err bad) = Err bad
 
 -- The first lines of an input were run, and their text is kept; the text lines that are left weren't run.
 -- Only where memory ran out the core and the lives may be others by now.
-pub record IsHeld (input : List ℕ) (held : Held) : Type 0 where
+pub record IsHeld (input : List ℕ) (held : HeldBack) : Type 0 where
   pub front : List StepLine
   pub core : Core
   pub lives : AllLives

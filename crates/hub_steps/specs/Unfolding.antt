@@ -21,11 +21,11 @@ use Rattle.hub_core.specs.Posting.{may_post, listing}
 use Rattle.hub_steps.specs.declared.shown.Shown.{Shown}
 use Rattle.hub_steps.specs.declared.shown.Shown.TheVariants as shown
 use Rattle.hub_steps.specs.declared.shown.Shown.TheVariants.{Answer, Moving, Doomed, DoneNoMemory, DoneMoving, Cast}
-use Rattle.hub_steps.specs.declared.cast_post.CastPost.{CastPost}
+use Rattle.hub_steps.specs.declared.shown.CastPost.{CastPost}
 use Rattle.hub_steps.specs.declared.step_line.AgentUrl.{AgentUrl}
 use Rattle.hub_steps.specs.declared.step_line.AgentUrl.TheVariants.{NoUrl, Origin, BadUrl, OpaqueOrigin}
-use Rattle.hub_steps.specs.declared.step_line.Poster.{Poster}
-use Rattle.hub_steps.specs.declared.step_line.Poster.TheVariants.{Port, Line}
+use Rattle.hub_steps.specs.declared.step_line.PosterName.{PosterName}
+use Rattle.hub_steps.specs.declared.step_line.PosterName.TheVariants.{Port, Line}
 use Rattle.hub_steps.specs.declared.step_line.PosterCommand.{PosterCommand}
 use Rattle.hub_steps.specs.declared.step_line.PosterCommand.TheVariants as poster
 use Rattle.hub_steps.specs.declared.step_line.Command.{Command}
@@ -84,19 +84,19 @@ shown_step refused a = do
 
 -- the line that the poster posts on: for a port's poster line 0 of the port that it is entangled with, else that line
 -- of a client's or worker's queue or of a broadcast channel
-abbrev pub sender_of : Poster → Facts → Option Sender
+abbrev pub sender_of : PosterName → Facts → Option Sender
 sender_of (Port p) f = option_map (λ q. record { end = record { 0 = q }; line = record { 0 = 0 } }) (peer_of (f.end p.0).kind)
 sender_of (Line e l) f = if (is_queue (f.end e.0).kind || is_some (maker_of (f.end e.0).kind)) && nat_lt l.0 (lines_of (f.end e.0).kind) then Some (record { end = e; line = l }) else None
 
-abbrev pub on_line : (Sender → Computation Shown) → Option Sender → Computation Shown
-on_line steps None = pure (Answer outcome.NotNow)
-on_line steps (Some s) = steps s
+abbrev pub over_line : (Sender → Computation Shown) → Option Sender → Computation Shown
+over_line steps None = pure (Answer outcome.NotNow)
+over_line steps (Some s) = steps s
 
 -- what the poster's line is for; a poster that names no line takes no step, and not-now is shown
-abbrev pub on_line_of : Poster → (Sender → Computation Shown) → Computation Shown
+abbrev pub on_line_of : PosterName → (Sender → Computation Shown) → Computation Shown
 on_line_of p steps = do
   line ← ask (sender_of p)
-  on_line steps line
+  over_line steps line
 
 -- What follows an Enter where hops are left: answered Moved, it goes on by Leave and Hop to enter again.
 abbrev pub go_on : Bool → Sender → Computation Outcome → Outcome → Computation Outcome
@@ -291,8 +291,8 @@ abbrev pub line_zero : EndId → Sender
 line_zero e = record { end = e; line = record { 0 = 0 } }
 
 -- Enter, the Push of the body, and Leave at a destination: the answer of that Push, or else of the Enter
-abbrev pub cast_to : Bool → List ℕ → EndId → Computation Outcome
-cast_to refused body e = do
+abbrev pub cast_over : Bool → List ℕ → EndId → Computation Outcome
+cast_over refused body e = do
   entered ← step refused (action.Enter (line_zero e))
   answer ← cast_inside refused body (line_zero e) entered
   left ← step refused (action.Leave (line_zero e))
@@ -302,7 +302,7 @@ cast_to refused body e = do
 abbrev pub cast_each : Bool → List ℕ → List EndId → Computation (List CastPost)
 cast_each refused body [] = pure []
 cast_each refused body (e ∷ ends) = do
-  answer ← cast_to refused body e
+  answer ← cast_over refused body e
   rest ← cast_each refused body ends
   pure (record { end = e; outcome = answer } ∷ rest)
 

@@ -2,11 +2,10 @@
 
 ghost use Rattle.std.specs.Prelude.{IfOk};
 ghost use Rattle.hub_steps.specs.Performed.{ComputesAt};
-ghost use Rattle.hub_steps.specs.Unfolding.{cast, cast_each, cast_inside, cast_to};
+ghost use Rattle.hub_steps.specs.Unfolding.{cast, cast_each, cast_inside, cast_over};
 
-use crate::cast_post::CastPost;
 use crate::entering::take_step;
-use crate::shown::Shown;
+use crate::shown::{CastPost, Shown};
 use hub_core::{Action, Core, OutOfMemory, Outcome, Sender};
 use hub_envelope::{Body, EndId, Items, LineId};
 use std::alloc::Global;
@@ -46,7 +45,7 @@ fn cast_each(
 {
     let mut posts = Vec::with_capacity(alloc, ends.len())?;
     for end in ends {
-        let outcome = cast_to(alloc, core, *end, body, memory_refused)?;
+        let outcome = cast_over(alloc, core, *end, body, memory_refused)?;
         let end = *end;
         posts.push(CastPost { end, outcome })?;
     }
@@ -54,7 +53,7 @@ fn cast_each(
 }
 
 /// Enters, pushes where the poster is inside, and leaves.
-fn cast_to(
+fn cast_over(
     alloc: Global,
     core: &mut Core,
     end: EndId,
@@ -62,7 +61,7 @@ fn cast_to(
     memory_refused: bool,
 ) -> Result<Outcome, OutOfMemory>
     ensures { IfOk result (λ answer.
-        ComputesAt core.old core.new (cast_to memory_refused body.now end) answer) }
+        ComputesAt core.old core.new (cast_over memory_refused body.now end) answer) }
 {
     let line = LineId(0);
     let sender = Sender { end, line };

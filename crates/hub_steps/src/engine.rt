@@ -1,16 +1,22 @@
 //! The engine of `messagehub steps`.
 
+ghost use Rattle.std.specs.Prelude.{◌≡◌, ◌⊎◌, ◌+◌, ◌≤◌, List, Ok, Err, IfErr, OnOk, length};
 ghost use Rattle.hub_engine.specs.Counted.{flushes_made, inner_reader, inner_writer};
 ghost use Rattle.hub_engine.specs.Engine.{AnswersInput, CountsDevice};
 ghost use Rattle.hub_engine.specs.Failures.{CountsFlush};
+ghost use Rattle.hub_text.specs.TextLines.{text_lines_of};
 ghost use Rattle.hub_steps.specs.Output.{IsStepsOutput};
 ghost use Rattle.hub_steps.specs.StepText.{OneText};
+ghost use Rattle.hub_steps.specs.Steps.{steps_from};
+ghost use Rattle.hub_steps.specs.declared.step_line.StepLine.{StepLine as Line};
 
-use crate::run::{Held, hold_back};
-use crate::test_steps::test_steps;
+use crate::read_step_line::read_step_line;
+use crate::run::{HeldBack, hold_back};
+use crate::step_line::StepLineError;
 use hub_engine::{
     CountedReader, CountedWriter, Device, Engine, ExitStatus, end_unread, run_engine,
 };
+use hub_text::split_text_line;
 use std::alloc::Global;
 use std::io::{Read, Write};
 
@@ -57,7 +63,7 @@ impl Engine for StepsEngine {
             Ok(held) => held,
             Err((line, error)) => return end_unread(alloc, writer, line, error.name()),
         };
-        let Held {
+        let HeldBack {
             mut run,
             number,
             rest,
@@ -73,4 +79,30 @@ impl Engine for StepsEngine {
             run.cut_short(writer)
         }
     }
+}
+
+/// Tests that each text line is a step line. They end at LF; the last LF may be missing. An error
+/// comes with the number of its text line, where `before` come before the first; of several bad
+/// ones the first is told. Memory may run out at any text that isn't empty.
+fn test_steps(alloc: Global, before: usize, text: &[u8]) -> Result<(), (usize, StepLineError)>
+    requires room { before + length text.now ≤ usize.MAX }
+    ensures ok { OnOk result ((lines : List Line)
+        × (steps_from (before + 1) (text_lines_of text.now) ≡ Ok lines)) }
+    ensures err { IfErr result (λ e. (e.1 ≡ StepLineError.OutOfMemory)
+        ⊎ (steps_from (before + 1) (text_lines_of text.now) ≡ Err e)) }
+{
+    let mut number = before;
+    let mut rest = text;
+    while !rest.is_empty() {
+        let (bytes, after) = split_text_line(rest);
+        number += 1;
+        match read_step_line(alloc, bytes) {
+            Ok(line) => {
+                drop(line);
+                rest = after;
+            }
+            Err(error) => return Err((number, error)),
+        }
+    }
+    Ok(())
 }

@@ -1,10 +1,8 @@
 //! Step lines run through the hub's machine, one outcome line for each.
 #![tactic(auto)]
 
-mod cast_post;
 mod casting;
 mod closing;
-mod ending;
 mod engine;
 mod entering;
 mod lives;
@@ -18,12 +16,10 @@ mod short_text;
 mod shown;
 mod starting;
 mod step_line;
-mod test_steps;
 mod text;
 
-pub use cast_post::CastPost;
 pub use engine::{run_steps, step_text_laws};
 pub use session::{Reply, Session, session_laws};
-pub use shown::Shown;
-pub use step_line::{AgentUrl, Command, Poster, PosterCommand, StepLine, StepLineError};
+pub use shown::{CastPost, Shown};
+pub use step_line::{AgentUrl, Command, PosterCommand, PosterName, StepLine, StepLineError};
 pub use text::write_shown;

@@ -7,19 +7,19 @@ ghost use Rattle.hub_core.specs.Shows.{Shows, StillShows};
 ghost use Rattle.hub_steps.specs.Lives.{lives_after};
 ghost use Rattle.hub_steps.specs.Performed.{ComputesAt, PerformsAt};
 ghost use Rattle.hub_steps.specs.Unfolding.{command_takes_memory, is_post, line_steps, on_line_of};
-ghost use Rattle.hub_steps.specs.Unfolding.{poster_command_takes_memory, sender_of, takes_one_step};
+ghost use Rattle.hub_steps.specs.Unfolding.{poster_command_takes_memory, sender_of, shown_step};
+ghost use Rattle.hub_steps.specs.Unfolding.{takes_one_step};
 
 use crate::casting::cast;
 use crate::closing::{close, sweep};
-use crate::ending::see;
-use crate::entering::show_step;
+use crate::entering::{show_step, take_step};
 use crate::lives::Lives;
 use crate::posting::post;
 use crate::shown::Shown;
 use crate::starting::{adopt, load, make_agent, make_member, make_worker};
-use crate::step_line::{Command, Poster, PosterCommand, StepLine};
+use crate::step_line::{Command, PosterCommand, PosterName, StepLine};
 use hub_core::{Action, Core, Kind, OutOfMemory, Outcome, Sender};
-use hub_envelope::{EndId, LineId, MAX_LINES};
+use hub_envelope::{AgentId, EndId, LineId, MAX_LINES};
 use std::alloc::Global;
 
 /// Takes the core's steps of a line, and gives what the line shows.
@@ -99,7 +99,7 @@ fn perform_rarer(
 #[tactic(auto, using(crate::proofs::Computing::on_lines))]
 fn perform_at(
     core: &mut Core,
-    poster: Poster,
+    poster: PosterName,
     command: PosterCommand,
     memory_refused: bool,
 ) -> Result<Shown, OutOfMemory>
@@ -125,19 +125,19 @@ fn perform_at(
 }
 
 /// The line that a poster posts on. `None` where it names nothing.
-fn sender_of(core: &Core, poster: Poster) -> Option<Sender>
+fn sender_of(core: &Core, poster: PosterName) -> Option<Sender>
     ensures { (h : History) → Shows core.now h → result ≡ sender_of poster (facts h) }
 {
     match poster {
-        Poster::Port(port) => core.sender_of(port),
-        Poster::Line(end, line) => line_of_queue(core, end, line),
+        PosterName::Port(port) => core.sender_of(port),
+        PosterName::Line(end, line) => line_of_queue(core, end, line),
     }
 }
 
 /// A line of a client's or worker's queue, or of a broadcast channel.
 fn line_of_queue(core: &Core, end: EndId, line: LineId) -> Option<Sender>
     ensures { (h : History) → Shows core.now h
-        → result ≡ sender_of (Poster.Line end line) (facts h) }
+        → result ≡ sender_of (PosterName.Line end line) (facts h) }
 {
     let count = match core.kind_of(end) {
         Some(Kind::Client | Kind::Worker) => MAX_LINES,
@@ -149,4 +149,25 @@ fn line_of_queue(core: &Core, end: EndId, line: LineId) -> Option<Sender>
     } else {
         None
     }
+}
+
+/// An agent looks whether it was ordered to end. The life of one that ends is terminated, once.
+#[tactic(auto, using(crate::proofs::Computing::shown_as))]
+fn see(
+    core: &mut Core,
+    lives: &mut Lives,
+    agent: AgentId,
+    memory_refused: bool,
+) -> Result<Shown, OutOfMemory>
+    ensures shown { IfOk result (λ shown.
+        ComputesAt core.old core.new (shown_step memory_refused (Action.See agent)) shown) }
+    ensures lives { IfOk result (λ shown.
+        lives.new ≡ lives_after (Command.See agent) shown lives.old) }
+    ensures still { OnErr result (StillShows core.old core.new × (lives.new ≡ lives.old)) }
+{
+    let answer = take_step(core, Action::See(agent), memory_refused)?;
+    if matches!(answer, Outcome::Ending(_)) {
+        lives.end(agent);
+    }
+    Ok(Shown::Answer(answer))
 }

@@ -15,12 +15,12 @@ ghost use Rattle.hub_text.specs.Reading.{IsReadAs};
 ghost use Rattle.hub_steps.specs.RarerStep.{spelled};
 ghost use Rattle.hub_steps.specs.ReadMemory.{has_part, reads_memory, text_reads_memory};
 ghost use Rattle.hub_steps.specs.StepLine.{A, BODY, E, LIST, NAME, P, U, WORD, command_in};
-ghost use Rattle.hub_steps.specs.StepLine.{command_of, cut_after, last_word, line_of, mark};
-ghost use Rattle.hub_steps.specs.StepLine.{number_of, poster_named, step_line_of, word_of};
+ghost use Rattle.hub_steps.specs.StepLine.{command_of, cut_after, last_word, line_read, mark};
+ghost use Rattle.hub_steps.specs.StepLine.{number_read, poster_named, step_line_of, word_read};
 ghost use Rattle.hub_steps.specs.StepLine.{words_after};
 
 use crate::rarer_step::{RarerStep, rarer_step_named};
-use crate::step_line::{AgentUrl, Command, Poster, PosterCommand, StepLine, StepLineError};
+use crate::step_line::{AgentUrl, Command, PosterCommand, PosterName, StepLine, StepLineError};
 use hub_core::Action;
 use hub_envelope::{AgentId, Body, EndId, Items, LineId, Text};
 use hub_life::Event;
@@ -178,7 +178,7 @@ fn end_after(rest: Option<&str>) -> Result<EndId, StepLineError>
     end_in(one_word(rest)?)
 }
 
-fn poster_after(rest: Option<&str>) -> Result<Poster, StepLineError>
+fn poster_after(rest: Option<&str>) -> Result<PosterName, StepLineError>
     ensures read { IsReadAs StepLineError.OutOfMemory (λ x. x) result
         (words_after (P ∷ []) (option_map (λ x. x.now) rest.entry)) }
     ensures memory { IfErr result (λ e. e ≢ StepLineError.OutOfMemory) }
@@ -200,7 +200,7 @@ fn end_and_agent_after(rest: Option<&str>) -> Result<(EndId, AgentId), StepLineE
 fn posting_after(
     alloc: Global,
     rest: Option<&str>,
-) -> Result<(Poster, Items<EndId>, Body), StepLineError>
+) -> Result<(PosterName, Items<EndId>, Body), StepLineError>
     ensures { IsReadAs StepLineError.OutOfMemory (λ x. (x.0, (x.1, x.2))) result
         (words_after (P ∷ LIST ∷ BODY ∷ []) (option_map (λ x. x.now) rest.entry)) }
 {
@@ -274,35 +274,35 @@ fn last_word(text: &str) -> Result<&str, StepLineError>
 
 /// No agent has the number 255, so each number that names no agent may be read as that one.
 fn agent_in(word: &str) -> Result<AgentId, StepLineError>
-    ensures read { IsReadAs StepLineError.OutOfMemory (λ x. x) result (word_of A word.now) }
+    ensures read { IsReadAs StepLineError.OutOfMemory (λ x. x) result (word_read A word.now) }
     ensures memory { IfErr result (λ e. e ≢ StepLineError.OutOfMemory) }
 {
-    match number_of(word) {
+    match number_read(word) {
         Some(number) => Ok(AgentId(u8::try_from(number).unwrap_or(u8::MAX))),
         None => Err(StepLineError::BadNumber),
     }
 }
 
 fn end_in(word: &str) -> Result<EndId, StepLineError>
-    ensures read { IsReadAs StepLineError.OutOfMemory (λ x. x) result (word_of E word.now) }
+    ensures read { IsReadAs StepLineError.OutOfMemory (λ x. x) result (word_read E word.now) }
     ensures memory { IfErr result (λ e. e ≢ StepLineError.OutOfMemory) }
 {
-    match number_of(word) {
+    match number_read(word) {
         Some(number) => Ok(EndId(number)),
         None => Err(StepLineError::BadNumber),
     }
 }
 
 /// A number of a step line: decimal digits without leading zeros, below 2^32.
-fn number_of(word: &str) -> Option<u32>
-    ensures { result ≡ number_of word.now }
+fn number_read(word: &str) -> Option<u32>
+    ensures { result ≡ number_read word.now }
 {
     let number = number_up_to(word, u64::from(u32::MAX))?;
     u32::try_from(number).ok()
 }
 
-fn poster_in(word: &str) -> Result<Poster, StepLineError>
-    ensures read { IsReadAs StepLineError.OutOfMemory (λ x. x) result (word_of P word.now) }
+fn poster_in(word: &str) -> Result<PosterName, StepLineError>
+    ensures read { IsReadAs StepLineError.OutOfMemory (λ x. x) result (word_read P word.now) }
     ensures memory { IfErr result (λ e. e ≢ StepLineError.OutOfMemory) }
 {
     match poster_named(word) {
@@ -313,27 +313,27 @@ fn poster_in(word: &str) -> Result<Poster, StepLineError>
 
 /// The poster of the port that one number names, or of the line that two numbers joined by `/`
 /// name.
-fn poster_named(word: &str) -> Option<Poster>
+fn poster_named(word: &str) -> Option<PosterName>
     ensures { result ≡ poster_named word.now }
 {
     let Some((end, line)) = cut_at(word, b'/') else {
-        return Some(Poster::Port(EndId(number_of(word)?)));
+        return Some(PosterName::Port(EndId(number_read(word)?)));
     };
-    let end = EndId(number_of(end)?);
-    let line = line_of(number_of(line)?);
-    Some(Poster::Line(end, line))
+    let end = EndId(number_read(end)?);
+    let line = line_read(number_read(line)?);
+    Some(PosterName::Line(end, line))
 }
 
 /// No end has a line 255, so each number that names no line may be read as that one.
-fn line_of(number: u32) -> LineId
-    ensures { result ≡ line_of number }
+fn line_read(number: u32) -> LineId
+    ensures { result ≡ line_read number }
 {
     LineId(u8::try_from(number).unwrap_or(u8::MAX))
 }
 
 #[inline(always)]
 fn list_in(alloc: Global, word: &str) -> Result<Items<EndId>, StepLineError>
-    ensures { IsReadAs StepLineError.OutOfMemory (λ x. x) result (word_of LIST word.now) }
+    ensures { IsReadAs StepLineError.OutOfMemory (λ x. x) result (word_read LIST word.now) }
 {
     match read_ends(alloc, word, u32::MAX) {
         Ok(Some(list)) => Ok(list),
@@ -343,7 +343,7 @@ fn list_in(alloc: Global, word: &str) -> Result<Items<EndId>, StepLineError>
 }
 
 fn event_in(word: &str) -> Result<Event, StepLineError>
-    ensures read { IsReadAs StepLineError.OutOfMemory (λ x. x) result (word_of WORD word.now) }
+    ensures read { IsReadAs StepLineError.OutOfMemory (λ x. x) result (word_read WORD word.now) }
     ensures memory { IfErr result (λ e. e ≢ StepLineError.OutOfMemory) }
 {
     match Event::named(word) {
@@ -353,9 +353,9 @@ fn event_in(word: &str) -> Result<Event, StepLineError>
 }
 
 /// The origin of a URL, or why it gives none.
-#[tactic(auto, unfolding(crate::specs::StepLine::url_of))]
+#[tactic(auto, unfolding(crate::specs::StepLine::url_read))]
 fn url_in(alloc: Global, word: &str) -> Result<AgentUrl, StepLineError>
-    ensures { IsReadAs StepLineError.OutOfMemory (λ x. x) result (word_of U word.now) }
+    ensures { IsReadAs StepLineError.OutOfMemory (λ x. x) result (word_read U word.now) }
 {
     if word == "-" {
         return Ok(AgentUrl::NoUrl);
@@ -369,9 +369,9 @@ fn url_in(alloc: Global, word: &str) -> Result<AgentUrl, StepLineError>
 }
 
 /// The JSON string that a text is.
-#[tactic(auto, unfolding(crate::specs::StepLine::name_of))]
+#[tactic(auto, unfolding(crate::specs::StepLine::name_read))]
 fn name_in(alloc: Global, text: &str) -> Result<Text, StepLineError>
-    ensures { IsReadAs StepLineError.OutOfMemory (λ x. x) result (word_of NAME text.now) }
+    ensures { IsReadAs StepLineError.OutOfMemory (λ x. x) result (word_read NAME text.now) }
 {
     let value = match Value::from_str(alloc, text) {
         Ok(value) => value,

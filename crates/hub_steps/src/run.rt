@@ -12,7 +12,7 @@ ghost use Rattle.hub_steps.specs.Output.{IsRunOutput};
 ghost use Rattle.hub_steps.specs.Performed.{PerformsAt};
 ghost use Rattle.hub_steps.specs.ShownText.{shown_line};
 ghost use Rattle.hub_steps.specs.Steps.{steps_from, steps_of};
-ghost use Rattle.hub_steps.specs.UnderWay.{AreRun, AreTold, IsHeld};
+ghost use Rattle.hub_steps.specs.UnderWay.{AreRun, AreLinesTold, IsHeld};
 ghost use Rattle.hub_steps.specs.declared.shown.Shown.{Shown as WhatIsShown};
 ghost use Rattle.hub_steps.specs.declared.step_line.StepLine.{StepLine as Line};
 
@@ -35,7 +35,7 @@ const MAX_HELD: usize = 134_217_728;
 
 /// A run of step lines: the core and the lives after those so far, and their outcome lines, as far
 /// as they are kept.
-pub struct Run {
+pub struct StepRun {
     pub core: Core,
     pub lives: Lives,
     /// The last outcome line that didn't fit into an array. Its memory is used again.
@@ -44,9 +44,9 @@ pub struct Run {
 }
 
 // By hand, so that whoever drops one makes one call, and its proof has no cases of its fields.
-impl Drop for Run {
+impl Drop for StepRun {
     fn drop(self) {
-        let Run {
+        let StepRun {
             core,
             lives,
             text,
@@ -61,8 +61,8 @@ impl Drop for Run {
 
 /// The first step lines of an input were run, and none of their outcome lines is written.
 #[derive(Drop)]
-pub struct Held<'a> {
-    pub run: Run,
+pub struct HeldBack<'a> {
+    pub run: StepRun,
     /// How many text lines were run.
     pub number: usize,
     /// The text lines that are left.
@@ -75,13 +75,13 @@ pub struct Held<'a> {
 /// which a bad text line comes later are never written. It stops where `MAX_HELD` bytes are kept,
 /// and where memory runs out at a step line. An error is that of the first bad text line, by its
 /// number from 1.
-pub fn hold_back<'a>(alloc: Global, input: &'a [u8]) -> Result<Held<'a>, (usize, StepLineError)>
+pub fn hold_back<'a>(alloc: Global, input: &'a [u8]) -> Result<HeldBack<'a>, (usize, StepLineError)>
     ensures held { IfOk result (λ held. IsHeld input.now held) }
     ensures room { IfOk result (λ held. held.number + length held.rest.now ≤ length input.now) }
     ensures err { IfErr result (λ e. (e.1 ≡ StepLineError.OutOfMemory)
         ⊎ (steps_of input.now ≡ Err e)) }
 {
-    let mut run = Run::new(alloc);
+    let mut run = StepRun::new(alloc);
     let mut number = 0;
     let mut rest = input;
     while !rest.is_empty() && run.kept.len() < MAX_HELD {
@@ -91,7 +91,7 @@ pub fn hold_back<'a>(alloc: Global, input: &'a [u8]) -> Result<Held<'a>, (usize,
             Err(error) => return Err((number + 1, error)),
         };
         if run.answer(alloc, line).is_err() {
-            return Ok(Held {
+            return Ok(HeldBack {
                 run,
                 number,
                 rest,
@@ -101,7 +101,7 @@ pub fn hold_back<'a>(alloc: Global, input: &'a [u8]) -> Result<Held<'a>, (usize,
         number += 1;
         rest = after;
     }
-    Ok(Held {
+    Ok(HeldBack {
         run,
         number,
         rest,
@@ -109,11 +109,12 @@ pub fn hold_back<'a>(alloc: Global, input: &'a [u8]) -> Result<Held<'a>, (usize,
     })
 }
 
-impl Run {
-    pub fn new(alloc: Global) -> Run
+impl StepRun {
+    /// A run before its first step line.
+    pub fn new(alloc: Global) -> StepRun
         ensures { AreRun result.core result.lives result.kept.items [] }
     {
-        Run {
+        StepRun {
             core: Core::new(alloc),
             lives: Lives::new(alloc),
             text: String::new(alloc),
@@ -199,7 +200,7 @@ impl Run {
     ) -> Result<ExitStatus, Device>
         ensures written { (old : Option (List ℕ)) → (core : TheCore) → (lives : AllLives)
             → (front back : List Line)
-            → AreTold old (W.contents (inner_writer writer.old)) core lives self.old.kept.items
+            → AreLinesTold old (W.contents (inner_writer writer.old)) core lives self.old.kept.items
             front
             → Writes (IsRunOutput (front ++ back)) old (W.contents (inner_writer writer.new))
             result }

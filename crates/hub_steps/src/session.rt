@@ -1,7 +1,7 @@
 //! Step lines that come one at a time, each answered before the next one is known.
 
 ghost use Rattle.std.specs.Prelude.{◌≡◌, ◌⊎◌, [], Some, IfSome, OnErr, OnOk, false, is_some, true};
-ghost use Rattle.hub_steps.specs.Session.{GoesOn, HasRun, IsKindOf, RunsLine, RunsOn};
+ghost use Rattle.hub_steps.specs.Session.{GoesOnFrom, HasRun, IsKindOf, RunsLine, RunsOn};
 ghost use Rattle.hub_steps.specs.Session.{SaidIsTheText, Stays, TakesMemory, TakesMore, is_lost_by};
 ghost use Rattle.hub_steps.specs.Session.{is_told, told};
 ghost use Rattle.hub_steps.specs.StepLineKind.{step_kind_text};
@@ -10,7 +10,7 @@ ghost use Rattle.hub_steps.specs.declared.session.Reply.TheVariants as reply;
 
 use crate::perform::perform;
 use crate::read_step_line::read_step_line;
-use crate::run::Run;
+use crate::run::StepRun;
 use crate::shown::Shown;
 use crate::step_line::{StepLine, StepLineError};
 use hub_core::OutOfMemory;
@@ -63,7 +63,7 @@ impl Drop for Last {
 /// ```
 #[derive(Drop)]
 pub struct Session {
-    run: Run,
+    run: StepRun,
     last: Last,
     is_lost: bool,
 }
@@ -76,7 +76,7 @@ impl Session {
         ensures lost { result.is_lost ≡ false }
     {
         Session {
-            run: Run::new(alloc),
+            run: StepRun::new(alloc),
             last: Last::Kept,
             is_lost: false,
         }
@@ -87,7 +87,7 @@ impl Session {
         ensures ran { (result ≡ reply.Ran) ⊎ (result ≡ reply.RanUntold)
             → RunsOn self.old self.new bytes.now }
         ensures bad { result ≡ reply.Bad
-            → IsKindOf bytes.now (told self.new) × GoesOn self.old self.new }
+            → IsKindOf bytes.now (told self.new) × GoesOnFrom self.old self.new }
         ensures no_memory { result ≡ reply.NoMemory → Stays self.old self.new }
         ensures told { (result ≡ reply.Ran) ⊎ (result ≡ reply.Bad) → is_told self.new ≡ true }
         ensures untold { result ≡ reply.RanUntold → is_told self.new ≡ false }

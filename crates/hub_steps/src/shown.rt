@@ -1,7 +1,15 @@
-use crate::cast_post::CastPost;
+//! What a step line shows.
 use hub_core::Outcome;
-use hub_envelope::Items;
+use hub_envelope::{EndId, Items};
 use hub_life::{LifeError, State};
+
+/// What a cast posted at a destination.
+#[derive(Debug, Drop)]
+pub struct CastPost {
+    pub end: EndId,
+    /// The outcome of the Push, or else of the Enter.
+    pub outcome: Outcome,
+}
 
 /// What a step line shows.
 #[derive(Debug)]

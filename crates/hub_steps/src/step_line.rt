@@ -3,11 +3,11 @@ ghost use Rattle.std.specs.Prelude.{◌≡◌, option_map};
 use hub_core::Action;
 use hub_envelope::{AgentId, Body, BodyError, EndId, Items, LineId, OutOfMemory, Text};
 use hub_life::Event;
-use std::alloc::{AllocError, AllocFailed};
+use std::alloc::AllocFailed;
 
 /// Whose poster a step line speaks of.
 #[derive(Clone, Copy, Debug, PartialEq, Eq)]
-pub enum Poster {
+pub enum PosterName {
     /// The poster that a port holds, to line 0 of the port that it is entangled with.
     Port(EndId),
     /// The poster of a line of a client's or worker's queue, or of a broadcast channel.
@@ -48,7 +48,7 @@ pub enum Command {
     Worker(AgentId),
     /// A broadcast channel of this name, and its Start.
     Member(AgentId, Text),
-    At(Poster, PosterCommand),
+    At(PosterName, PosterCommand),
     /// Start of a client's queue, whose document is parsed.
     Loaded(EndId),
     /// Adopt, and Start where the end is a worker's queue.

@@ -7,17 +7,15 @@ ghost use Rattle.hub_steps.specs.OutcomeText.{outcome_line, ports_text};
 ghost use Rattle.hub_steps.specs.ShownText.{cast_line, post_text, posts_text, refused_line};
 ghost use Rattle.hub_steps.specs.ShownText.{shown_line, state_text};
 
-use crate::cast_post::CastPost;
-use crate::shown::Shown;
+use crate::shown::{CastPost, Shown};
 use hub_core::Outcome;
-use hub_envelope::{EndId, Envelope};
+use hub_envelope::{EndId, Envelope, OutOfMemory};
 use hub_life::{LifeError, State};
 use hub_text::EndListText;
-use std::alloc::AllocError;
 
 /// Writes the outcome line of what a step line shows, with its LF.
 #[tactic(auto, unfolding(crate::specs::ShownText::shown_line))]
-pub fn write_shown(text: &mut String, shown: &Shown) -> Result<(), AllocError>
+pub fn write_shown(text: &mut String, shown: &Shown) -> Result<(), OutOfMemory>
     ensures { OnOk result (string_bytes text.new ≡ string_bytes text.old ++ shown_line shown.now) }
 {
     match shown {
@@ -35,7 +33,7 @@ pub fn write_shown(text: &mut String, shown: &Shown) -> Result<(), AllocError>
 }
 
 /// Writes the outcome line of what a cast posted.
-fn write_cast(text: &mut String, posts: &[CastPost]) -> Result<(), AllocError>
+fn write_cast(text: &mut String, posts: &[CastPost]) -> Result<(), OutOfMemory>
     ensures { OnOk result (string_bytes text.new
         ≡ string_bytes text.old ++ cast_line posts.now) }
 {
@@ -47,7 +45,7 @@ fn write_cast(text: &mut String, posts: &[CastPost]) -> Result<(), AllocError>
     text.push_str("\n")
 }
 
-fn write_posts(text: &mut String, posts: &[CastPost]) -> Result<(), AllocError>
+fn write_posts(text: &mut String, posts: &[CastPost]) -> Result<(), OutOfMemory>
     ensures { OnOk result (string_bytes text.new
         ≡ string_bytes text.old ++ posts_text posts.now) }
 {
@@ -58,7 +56,7 @@ fn write_posts(text: &mut String, posts: &[CastPost]) -> Result<(), AllocError>
 }
 
 /// Writes a space, the number of a destination, and what was answered there.
-fn write_post(text: &mut String, post: &CastPost) -> Result<(), AllocError>
+fn write_post(text: &mut String, post: &CastPost) -> Result<(), OutOfMemory>
     ensures { OnOk result (string_bytes text.new
         ≡ string_bytes text.old ++ post_text post.now) }
 {
@@ -75,7 +73,7 @@ fn write_post(text: &mut String, post: &CastPost) -> Result<(), AllocError>
 
 /// Writes the line of a worker's state.
 #[tactic(auto, unfolding(crate::specs::ShownText::shown_line))]
-fn write_state(text: &mut String, state: State) -> Result<(), AllocError>
+fn write_state(text: &mut String, state: State) -> Result<(), OutOfMemory>
     ensures { OnOk result (string_bytes text.new
         ≡ string_bytes text.old ++ shown_line (Shown.State state)) }
 {
@@ -109,7 +107,7 @@ fn refused_line(error: LifeError) -> &'static str
 
 /// Writes the line of an outcome, with its LF.
 #[tactic(auto, unfolding(crate::specs::OutcomeText::outcome_line))]
-fn write_outcome(text: &mut String, outcome: &Outcome) -> Result<(), AllocError>
+fn write_outcome(text: &mut String, outcome: &Outcome) -> Result<(), OutOfMemory>
     ensures { OnOk result (string_bytes text.new
         ≡ string_bytes text.old ++ outcome_line outcome.now) }
 {
@@ -155,7 +153,7 @@ fn write_outcome(text: &mut String, outcome: &Outcome) -> Result<(), AllocError>
 }
 
 /// Writes the line of the ends of an agent that ends.
-fn write_ending(text: &mut String, ends: &[EndId]) -> Result<(), AllocError>
+fn write_ending(text: &mut String, ends: &[EndId]) -> Result<(), OutOfMemory>
     ensures { OnOk result (string_bytes text.new
         ≡ string_bytes text.old ++ ending_line ends.now) }
 {
@@ -168,7 +166,7 @@ fn write_ending(text: &mut String, ends: &[EndId]) -> Result<(), AllocError>
 }
 
 /// Writes a space and the number of each end.
-fn write_numbers(text: &mut String, ends: &[EndId]) -> Result<(), AllocError>
+fn write_numbers(text: &mut String, ends: &[EndId]) -> Result<(), OutOfMemory>
     ensures { OnOk result (string_bytes text.new
         ≡ string_bytes text.old ++ numbers_text ends.now) }
 {
@@ -179,7 +177,7 @@ fn write_numbers(text: &mut String, ends: &[EndId]) -> Result<(), AllocError>
 }
 
 /// Writes the line of an envelope that was taken.
-fn write_delivery(text: &mut String, envelope: &Envelope) -> Result<(), AllocError>
+fn write_delivery(text: &mut String, envelope: &Envelope) -> Result<(), OutOfMemory>
     ensures { OnOk result (string_bytes text.new
         ≡ string_bytes text.old ++ got_line envelope.now) }
 {
@@ -196,7 +194,7 @@ fn write_delivery(text: &mut String, envelope: &Envelope) -> Result<(), AllocErr
 }
 
 /// Writes the line of what was discarded.
-fn write_discarded(text: &mut String, envelopes: &[Envelope]) -> Result<(), AllocError>
+fn write_discarded(text: &mut String, envelopes: &[Envelope]) -> Result<(), OutOfMemory>
     ensures { OnOk result (string_bytes text.new
         ≡ string_bytes text.old ++ discarded_line envelopes.now) }
 {
@@ -209,7 +207,7 @@ fn write_discarded(text: &mut String, envelopes: &[Envelope]) -> Result<(), Allo
 }
 
 /// Writes a space, the name and the line of each envelope.
-fn write_names(text: &mut String, envelopes: &[Envelope]) -> Result<(), AllocError>
+fn write_names(text: &mut String, envelopes: &[Envelope]) -> Result<(), OutOfMemory>
     ensures { OnOk result (string_bytes text.new
         ≡ string_bytes text.old ++ names_text envelopes.now) }
 {
@@ -219,7 +217,7 @@ fn write_names(text: &mut String, envelopes: &[Envelope]) -> Result<(), AllocErr
     Ok(())
 }
 
-fn write_name(text: &mut String, envelope: &Envelope) -> Result<(), AllocError>
+fn write_name(text: &mut String, envelope: &Envelope) -> Result<(), OutOfMemory>
     ensures { OnOk result (string_bytes text.new
         ≡ string_bytes text.old ++ listed_name envelope.now) }
 {
@@ -230,7 +228,7 @@ fn write_name(text: &mut String, envelope: &Envelope) -> Result<(), AllocError>
 }
 
 /// Writes the ports of a delivery, where there are some.
-fn write_ports(text: &mut String, ports: &[EndId]) -> Result<(), AllocError>
+fn write_ports(text: &mut String, ports: &[EndId]) -> Result<(), OutOfMemory>
     ensures { OnOk result (string_bytes text.new ≡ string_bytes text.old ++ ports_text ports.now) }
 {
     if ports.is_empty() {

@@ -3,12 +3,10 @@
 //! where an allocation was refused, since the next one has the memory.
 #![tactic(auto)]
 
-mod making;
 mod note;
 mod posting;
 mod taking;
 
-pub use making::{bell, body, draft};
 pub use note::{Delivered, Loop, Note, open_loop};
-pub use posting::{Posting, is_message, post, post_with};
+pub use posting::{Posting, bell, body, draft, is_message, post, post_with};
 pub use taking::{Takes, release_port, take, turn};

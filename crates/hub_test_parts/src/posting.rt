@@ -1,12 +1,47 @@
-ghost use Rattle.std.specs.Prelude.{◌≡◌, ◌&&◌, ◌==◌, not, bytes_eq, IfSome};
-ghost use Rattle.hub_test_parts.specs.Parts.{IsTextPosted};
+ghost use Rattle.std.specs.Prelude.{◌≡◌, ◌&&◌, ◌==◌, not, bytes_eq, IfSome, Ok};
+ghost use Rattle.hub_test_parts.specs.Parts.{IsTextPosted, IsDraftOf};
+ghost use Rattle.hub_envelope.specs.Answer.{answer_of};
 
-use crate::making::draft;
 use hub_depot::Depot;
-use hub_envelope::{AgentId, Envelope};
-use hub_queue::{NoPause, Onward, Pause, PostError, Poster};
+use hub_envelope::{AgentId, Body, Draft, Envelope, Ports};
+use hub_queue::{Bell, Listener, NoPause, Onward, Pause, PostError, Poster};
 use std::alloc::Global;
 use std::sync::Wait;
+
+fn try_bell(alloc: Global) -> Option<Bell> {
+    let (_, bell) = Listener::open(alloc).ok()?;
+    Some(bell)
+}
+
+/// A bell that nobody sleeps at.
+pub fn bell(alloc: Global) -> Option<Bell> {
+    match try_bell(alloc) {
+        Some(bell) => Some(bell),
+        None => try_bell(alloc),
+    }
+}
+
+/// The body that a text stands for.
+pub fn body(alloc: Global, text: &str) -> Option<Body>
+    ensures { IfSome result (λ body. answer_of text.now ≡ Ok body) }
+{
+    match Body::read(alloc, text) {
+        Ok(body) => Some(body),
+        Err(_) => Body::read(alloc, text).ok(),
+    }
+}
+
+/// A draft of this agent with this body and no ports.
+pub fn draft(alloc: Global, agent: AgentId, text: &str) -> Option<Draft>
+    ensures { IfSome result (IsDraftOf agent text.now) }
+{
+    Some(Draft {
+        agent,
+        body: body(alloc, text)?,
+        ports: Ports::none(alloc),
+        notice: false,
+    })
+}
 
 /// The epoch and the number under which a draft was accepted at the end and line of its poster, or
 /// the refusal.

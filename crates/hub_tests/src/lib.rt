@@ -2,7 +2,7 @@
 //!
 //! A crate with tests is proved twice, once with them and once without. So what a test can see from
 //! outside its crate stands in a crate that has nothing but tests, as this one; there are six
-//! because the gate proves them side by side.
+//! because CI proves them side by side.
 #![tactic(auto)]
 
 #[cfg(test)]
@@ -17,5 +17,3 @@ mod origins;
 mod refused_logs;
 #[cfg(test)]
 mod scripts;
-#[cfg(test)]
-mod texts;

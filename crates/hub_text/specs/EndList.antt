@@ -6,21 +6,21 @@ use Rattle.hub_envelope.specs.declared.ids.EndId.{EndId}
 use Rattle.hub_text.specs.Number.{number_of}
 
 -- the end of that number, where the word writes one up to the limit
-abbrev pub end_of : ℕ → List ℕ → Option EndId
-end_of max word = option_map (λ n. record { 0 = n }) (number_of max word)
+abbrev pub end_read : ℕ → List ℕ → Option EndId
+end_read max word = option_map (λ n. record { 0 = n }) (number_of max word)
 
 -- the ends with the one that the word names
 abbrev pub with_end : ℕ → List EndId → List ℕ → Option (List EndId)
-with_end max ends word = option_map (λ e. ends ++ e ∷ []) (end_of max word)
+with_end max ends word = option_map (λ e. ends ++ e ∷ []) (end_read max word)
 
 -- the ends with those that the words name
 abbrev pub ends_from : ℕ → List EndId → List (List ℕ) → Option (List EndId)
 ends_from max ends [] = Some ends
 ends_from max ends (word ∷ words) = option_and_then (λ longer. ends_from max longer words) (with_end max ends word)
 
--- the ends of a list, of which no number is above the limit
-unfoldable pub ends_of : ℕ → List ℕ → Option (List EndId)
-ends_of max list = if bytes_eq list (codes "-") then Some [] else ends_from max [] (slice_split (λ b. b == 44) list)
+-- the ends of a list that has no number above the limit
+unfoldable pub ends_listed : ℕ → List ℕ → Option (List EndId)
+ends_listed max list = if bytes_eq list (codes "-") then Some [] else ends_from max [] (slice_split (λ b. b == 44) list)
 
 -- a comma and a number for each
 abbrev pub more_ends_text : List EndId → List ℕ

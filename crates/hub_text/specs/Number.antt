@@ -10,7 +10,7 @@ abbrev pub value_after : ℕ → List ℕ → ℕ
 value_after n [] = n
 value_after n (b ∷ bytes) = value_after (n * 10 + (b - 48)) bytes
 
--- one digit, or more of which the first isn't 0
+-- one digit, or several that don't begin with 0
 abbrev pub is_numeral : List ℕ → Bool
 is_numeral word = nat_lt 0 (length word) && (nat_lt (length word) 2 || not (slice_index word 0 == 48)) && list_all is_digit word
 

@@ -1,7 +1,7 @@
 ghost use Rattle.std.specs.Prelude.{◌≡◌, IfOk, Some, option_map};
-ghost use Rattle.hub_text.specs.EndList.{Adds, ends_of, ends_text};
+ghost use Rattle.hub_text.specs.EndList.{Adds, ends_listed, ends_text};
 
-use crate::number::number_of;
+use crate::words::number_of;
 use hub_envelope::{EndId, Items, OutOfMemory};
 use std::alloc::Global;
 use std::fmt;
@@ -13,9 +13,9 @@ use std::fmt;
 /// ```rust
 /// let ends = read_ends(alloc, "7,0,12", 65_535)?;
 /// ```
-#[tactic(auto, unfolding(crate::specs::EndList::ends_of))]
+#[tactic(auto, unfolding(crate::specs::EndList::ends_listed))]
 pub fn read_ends(alloc: Global, word: &str, max: u32) -> Result<Option<Items<EndId>>, OutOfMemory>
-    ensures { IfOk result (λ ends. option_map (λ x. x) ends ≡ ends_of max word.now) }
+    ensures { IfOk result (λ ends. option_map (λ x. x) ends ≡ ends_listed max word.now) }
 {
     let mut ends = Items::none(alloc);
     if word == "-" {

@@ -6,11 +6,7 @@
 #![tactic(auto)]
 
 mod end_list;
-mod number;
-mod text_lines;
-mod word;
+mod words;
 
 pub use end_list::{EndListText, read_ends};
-pub use number::number_of;
-pub use text_lines::split_text_line;
-pub use word::{cut_at, next_word};
+pub use words::{cut_at, next_word, number_of, split_text_line};

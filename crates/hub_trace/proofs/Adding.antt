@@ -6,10 +6,10 @@ use Rattle.hub_envelope.specs.declared.ids.EndId.{EndId}
 use Rattle.hub_trace.specs.declared.log_entry.LogEntry.{LogEntry}
 use Rattle.hub_trace.specs.declared.log_entry.LogEntry.TheVariants.{Put, Got, Adopted, Closed}
 use Rattle.hub_trace.specs.declared.log_line.LogLine.TheVariants as line
-use Rattle.hub_trace.specs.declared.log_error.LogError.TheVariants.{BadLine}
+use Rattle.hub_trace.specs.declared.error.LogError.TheVariants.{BadLine}
 use Rattle.hub_trace.specs.Accepted.{AgentLog}
 use Rattle.hub_trace.specs.Closings.{all_closings, closes_again, closes_one, closings, is_closed_in}
-use Rattle.hub_trace.specs.Read.{TellsClosed, with_entry, with_line}
+use Rattle.hub_trace.specs.Read.{TellsClosed, with_entry, with_log_line}
 
 -- the newest log is written with the entry
 with_last : (logs : List AgentLog) (log new : AgentLog) (e : LogEntry) (n : ℕ) → length logs ≡ n + 1 → log ≡ get_or logs n log → new ≡ (log.0, log.1 ++ e ∷ []) → with_entry logs e ≡ set logs n new
@@ -25,12 +25,12 @@ same_test f g h (Got d) = refl
 same_test f g h (Adopted e k) = refl
 same_test f g h (Closed e) = h e.0
 
-pub may_add : (logs : List AgentLog) (e : LogEntry) → 0 < length logs → closes_again logs e ≡ false → with_line logs (line.Entry e) ≡ Ok (with_entry logs e)
+pub may_add : (logs : List AgentLog) (e : LogEntry) → 0 < length logs → closes_again logs e ≡ false → with_log_line logs (line.Entry e) ≡ Ok (with_entry logs e)
 may_add [] e some once = absurd (omega arith)
 may_add (l ∷ logs) e some once = ap (λ b. cond b (Err BadLine) (Ok (with_entry (l ∷ logs) e))) once
 
 pub entry_added : (logs : List AgentLog) (n : ℕ) (log new : AgentLog) (e : LogEntry) (f : ℕ → Bool) → TellsClosed f logs → length logs ≡ n + 1 → log ≡ get_or logs n log
-    → closes_one f e ≡ false → new ≡ (log.0, log.1 ++ e ∷ []) → with_line logs (line.Entry e) ≡ Ok (set logs n new)
+    → closes_one f e ≡ false → new ≡ (log.0, log.1 ++ e ∷ []) → with_log_line logs (line.Entry e) ≡ Ok (set logs n new)
 entry_added logs n log new e f closed some is once made =
     may_add logs e (omega arith) (sym (same_test f (is_closed_in logs) closed e) ∙ once)
     ∙ ap (λ (xs : List AgentLog). Ok xs) (with_last logs log new e n some is made)
@@ -82,7 +82,7 @@ still_closed logs n log new e f g closed some is made noted end =
     ∙ ap (λ (xs : List AgentLog). is_closed_in xs end) (with_last logs log new e n some is made)
 
 -- an entry that closes an end again isn't added
-pub again : (logs : List AgentLog) (e : LogEntry) (f : ℕ → Bool) → TellsClosed f logs → closes_one f e ≡ true → with_line logs (line.Entry e) ≡ Err BadLine
+pub again : (logs : List AgentLog) (e : LogEntry) (f : ℕ → Bool) → TellsClosed f logs → closes_one f e ≡ true → with_log_line logs (line.Entry e) ≡ Err BadLine
 again [] e f closed h = refl
 again (l ∷ logs) e f closed h = ap (λ b. cond b (Err BadLine) (Ok (with_entry (l ∷ logs) e))) (sym (same_test f (is_closed_in (l ∷ logs)) closed e) ∙ h)
 

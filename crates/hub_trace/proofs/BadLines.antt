@@ -3,22 +3,22 @@ use Rattle.std.proofs.Common.{◌≡◌, ℕ, List, [], ◌∷◌, Bool, true, f
 use Rattle.std.specs.Str.{is_utf8}
 use Rattle.hub_envelope.specs.Answer.{answer_of}
 use Rattle.hub_envelope.specs.declared.body.BodyError.{BodyError}
-use Rattle.hub_text.specs.EndList.{ends_of}
+use Rattle.hub_text.specs.EndList.{ends_listed}
 use Rattle.hub_text.specs.Number.{number_of}
 use Rattle.hub_text.specs.Reading.{◌>>=◌, some_or}
 use Rattle.hub_text.specs.Word.{cut}
-use Rattle.hub_trace.specs.declared.content.Content.TheVariants.{Message, Notice}
+use Rattle.hub_trace.specs.declared.content.Content.TheVariants.{Payload, Notice}
 use Rattle.hub_trace.specs.declared.log_version.LogVersion.{LogVersion}
 use Rattle.hub_trace.specs.LogVersion.{has_notices, max_body, max_line}
-use Rattle.hub_trace.specs.declared.log_error.LogError.{LogError}
-use Rattle.hub_trace.specs.declared.log_error.LogError.TheVariants.{BadLine}
+use Rattle.hub_trace.specs.declared.error.LogError.{LogError}
+use Rattle.hub_trace.specs.declared.error.LogError.TheVariants.{BadLine}
 use Rattle.hub_trace.specs.declared.log_line.LogLine.{LogLine}
 use Rattle.hub_trace.specs.declared.log_line.LogLine.TheVariants as line
 use Rattle.hub_trace.specs.Accepted.{AgentLog}
 use Rattle.hub_trace.specs.Closings.{closes_again}
-use Rattle.hub_trace.specs.LogLine.{LogRead, adoption_in, agent_in, begins_with_space, body_answer, body_in, content_cut, content_in, delivery_in, end_in, epoch_in, posted_in, line_in, log_line_of, log_line_with, message_with, number_in, parts_in, ports_in, ports_tested, text_in}
+use Rattle.hub_trace.specs.LogLine.{LogRead, adoption_in, agent_in, begins_with_space, body_answer, body_in, content_cut, content_in, delivery_in, end_in, epoch_in, posted_in, line_in_logs, log_line_of, log_line_with, message_with, number_in_logs, parts_in, ports_in_logs, ports_tested, text_in_logs}
 use Rattle.hub_trace.specs.PortList.{is_port_list}
-use Rattle.hub_trace.specs.Read.{line_added, with_entry, with_line}
+use Rattle.hub_trace.specs.Read.{line_added, with_entry, with_log_line}
 
 -- what is refused is a bad line
 abbrev pub RefusesBad : {X : Type 0} → LogRead X → Type 0
@@ -42,27 +42,27 @@ either : {X : Type 0} (b : Bool) (x y : LogRead X) → RefusesBad x → RefusesB
 either true x y h k = h
 either false x y h k = k
 
-number : (max : ℕ) (word : List ℕ) → RefusesBad (number_in max word)
+number : (max : ℕ) (word : List ℕ) → RefusesBad (number_in_logs max word)
 number max word = some (number_of max word)
 
 parts : (c : ℕ) (text : List ℕ) → RefusesBad (parts_in c text)
 parts c text = some (cut c text)
 
 end : (word : List ℕ) → RefusesBad (end_in word)
-end word = then (number_in 65535 word) _ (number 65535 word) (λ n. ok (record { 0 = n }))
+end word = then (number_in_logs 65535 word) _ (number 65535 word) (λ n. ok (record { 0 = n }))
 
 posted : (v : LogVersion) (e l name : List ℕ) → RefusesBad (posted_in v e l name)
 unfolding posted_in
 posted v e l name =
     then (parts_in 58 name) _ (parts 58 name) (λ p.
     then (end_in e) _ (end e) (λ x.
-    then (line_in v l) _ (then (number_in (max_line v) l) _ (number (max_line v) l) (λ n. ok (record { 0 = n }))) (λ y.
+    then (line_in_logs v l) _ (then (number_in_logs (max_line v) l) _ (number (max_line v) l) (λ n. ok (record { 0 = n }))) (λ y.
     then (epoch_in p.0) _ (number 65535 p.0) (λ epoch.
-    then (number_in 4611686018427387903 p.1) _ (number 4611686018427387903 p.1) (λ n. ok (record { end = x; line = y; epoch = epoch; number = n }))))))
+    then (number_in_logs 4611686018427387903 p.1) _ (number 4611686018427387903 p.1) (λ n. ok (record { end = x; line = y; epoch = epoch; number = n }))))))
 
-ports : (list : List ℕ) → RefusesBad (ports_in list)
-unfolding ports_in
-ports list = then (some_or BadLine (ends_of 65535 list)) ports_tested (some (ends_of 65535 list)) (λ ends. either (is_port_list ends) (Ok ends) (Err BadLine) (ok ends) bad)
+ports : (list : List ℕ) → RefusesBad (ports_in_logs list)
+unfolding ports_in_logs
+ports list = then (some_or BadLine (ends_listed 65535 list)) ports_tested (some (ends_listed 65535 list)) (λ ends. either (is_port_list ends) (Ok ends) (Err BadLine) (ok ends) bad)
 
 answer : (v : LogVersion) (r : Result (List ℕ) BodyError) → RefusesBad (body_answer v r)
 answer v (Ok x) = either (nat_le (length x) (max_body v)) (Ok x) (Err BadLine) (ok x) bad
@@ -75,12 +75,12 @@ body v text = either (begins_with_space text) (Err BadLine) (body_answer v (answ
 message : (v : LogVersion) (list text : List ℕ) → RefusesBad (message_with v list text)
 unfolding message_with
 message v list text =
-    then (ports_in list) _ (ports list) (λ ends.
+    then (ports_in_logs list) _ (ports list) (λ ends.
     then (body_in v text) _ (body v text) (λ b. ok (ends, b)))
 
 content_of_cut : (v : LogVersion) (text : List ℕ) (parts : Option (List ℕ × List ℕ)) → RefusesBad (content_cut v text parts)
 content_of_cut v text None = either (has_notices v && bytes_eq text (codes "notice")) (Ok Notice) (Err BadLine) (ok Notice) bad
-content_of_cut v text (Some p) = then (message_with v p.0 p.1) _ (message v p.0 p.1) (λ m. ok (Message m))
+content_of_cut v text (Some p) = then (message_with v p.0 p.1) _ (message v p.0 p.1) (λ m. ok (Payload m))
 
 content : (v : LogVersion) (text : List ℕ) → RefusesBad (content_in v text)
 unfolding content_in
@@ -105,24 +105,24 @@ adoption text =
 with_name : (v : LogVersion) (name rest : List ℕ) → RefusesBad (log_line_with v name rest)
 unfolding log_line_with
 with_name v name rest =
-    either (bytes_eq name (codes "agent")) _ _ (then (agent_in rest) _ (then (number_in 15 rest) _ (number 15 rest) (λ n. ok (record { 0 = n }))) (λ a. ok (line.Agent a)))
+    either (bytes_eq name (codes "agent")) _ _ (then (agent_in rest) _ (then (number_in_logs 15 rest) _ (number 15 rest) (λ n. ok (record { 0 = n }))) (λ a. ok (line.Agent a)))
     (either (bytes_eq name (codes "put")) _ _ (then (delivery_in v rest) _ (delivery v rest) (λ d. ok _))
     (either (bytes_eq name (codes "got")) _ _ (then (delivery_in v rest) _ (delivery v rest) (λ d. ok _))
     (either (bytes_eq name (codes "adopted")) _ _ (then (adoption_in rest) _ (adoption rest) (λ e. ok _))
     (either (bytes_eq name (codes "closed")) _ _ (then (end_in rest) _ (end rest) (λ e. ok _)) bad))))
 
-line_text : (v : LogVersion) (text : List ℕ) → RefusesBad (text_in v text)
-unfolding text_in
+line_text : (v : LogVersion) (text : List ℕ) → RefusesBad (text_in_logs v text)
+unfolding text_in_logs
 line_text v text = then (parts_in 32 text) _ (parts 32 text) (λ p. with_name v p.0 p.1)
 
 log_line : (v : LogVersion) (bytes : List ℕ) → RefusesBad (log_line_of v bytes)
 unfolding log_line_of
-log_line v bytes = either (is_utf8 bytes) (text_in v bytes) (Err BadLine) (line_text v bytes) bad
+log_line v bytes = either (is_utf8 bytes) (text_in_logs v bytes) (Err BadLine) (line_text v bytes) bad
 
-with : (logs : List AgentLog) (l : LogLine) → RefusesBad (with_line logs l)
+with : (logs : List AgentLog) (l : LogLine) → RefusesBad (with_log_line logs l)
 with logs (line.Agent a) = ok _
 with [] (line.Entry e) = bad
 with (l ∷ logs) (line.Entry e) = either (closes_again (l ∷ logs) e) (Err BadLine) (Ok (with_entry (l ∷ logs) e)) bad (ok _)
 
 pub bad_line : (v : LogVersion) (logs : List AgentLog) (bytes : List ℕ) → RefusesBad (line_added v logs bytes)
-bad_line v logs bytes = then (log_line_of v bytes) (with_line logs) (log_line v bytes) (with logs)
+bad_line v logs bytes = then (log_line_of v bytes) (with_log_line logs) (log_line v bytes) (with logs)

@@ -21,7 +21,7 @@ pub dropped : {X : Type 0} (b : Bool) (x : X) (xs : List X) → b ≡ false → 
 dropped true x xs h = cc
 dropped false x xs h = refl
 
--- two kept elements of which at most one is kept may change places
+-- two elements may change places where at most one of them is kept
 pub swap_kept : {X : Type 0} (s t : Bool) (y z : X) (fs gs : List X) → (s ≡ true → t ≡ true → ⊥) → fs ≡ cond t (y ∷ gs) gs → cond s (z ∷ fs) fs ≡ cond t (y ∷ cond s (z ∷ gs) gs) (cond s (z ∷ gs) gs)
 swap_kept true true y z fs gs apart e = absurd (apart refl refl)
 swap_kept true false y z fs gs apart e = ap (λ l. z ∷ l) e

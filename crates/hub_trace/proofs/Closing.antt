@@ -8,7 +8,7 @@ use Rattle.std.specs.Option.{option_eq}
 use Rattle.std.proofs.lemmas.Map.Views.{exact_unsigned_eq}
 use Rattle.hub_trace.specs.declared.log_entry.Delivery.{Delivery}
 use Rattle.hub_trace.specs.declared.received.Happening.{Happening}
-use Rattle.hub_trace.specs.declared.received.Arrival.{Arrival}
+use Rattle.hub_trace.specs.declared.received.Incoming.{Incoming}
 use Rattle.hub_trace.specs.Got.{EndEvent, Receipt, receipt, receipts, is_closed_after}
 use Rattle.hub_trace.specs.Views.{IsOwn, RisesByEnd, end_event_of, receipt_of, end_events_in, receipts_in, is_closed}
 use Rattle.hub_trace.proofs.Cases.{by_test}
@@ -34,7 +34,7 @@ closing_step h hs c end none over =
     (λ t. same_when_none c rest (λ e. over e t))
 
 -- what was got goes to its own end
-got_step : (h : Happening) (hs : List Happening) (c : Bool) (end : ℕ) (a : Arrival) (d : Bor Delivery) → h.got ≡ Some d
+got_step : (h : Happening) (hs : List Happening) (c : Bool) (end : ℕ) (a : Incoming) (d : Bor Delivery) → h.got ≡ Some d
     → a.posted ≡ d.now.posted → a.content.now ≡ d.now.content → ((h.end.0 == end) ≡ true → a.late ≡ c) → d.now.posted.end.0 ≡ h.end.0
     → receipts c (end_events_in (h ∷ hs) end) ≡ receipts_in (a ∷ []) end ++ receipts c (end_events_in hs end)
 got_step h hs c end a d got names contents late own =
@@ -46,7 +46,7 @@ got_step h hs c end a d got names contents late own =
     (λ _. refl)
     ∙ (λ i. map receipt_of (cond (at i == end) (a ∷ []) []) ++ receipts c rest)
 
-receipts_in-append : (xs ys : List Arrival) (end : ℕ) → receipts_in (xs ++ ys) end ≡ receipts_in xs end ++ receipts_in ys end
+receipts_in-append : (xs ys : List Incoming) (end : ℕ) → receipts_in (xs ++ ys) end ≡ receipts_in xs end ++ receipts_in ys end
 receipts_in-append xs ys end = ap (map receipt_of) (filter-append (λ a. a.posted.end.0 == end) xs ys) ∙ map-append receipt_of (filter (λ a. a.posted.end.0 == end) xs) (filter (λ a. a.posted.end.0 == end) ys)
 
 differs : (x y z : ℕ) → x ≤ y → y ≤ z → (y == x) ≡ false → (z == x) ≡ false
@@ -88,7 +88,7 @@ late_is : (closed : Option ℕ) (n end : ℕ) (r : Bool) → r ≡ option_eq nat
 late_is None n end r is t = is
 late_is (Some x) n end r is t = is ∙ ap (λ m. x == m) (exact_unsigned_eq n end t)
 
-pub told_got : (xs : List Happening) (i : ℕ) (h : Happening) (closed : Option ℕ) (arrivals : List Arrival) (a : Arrival) (d : Bor Delivery) (end : ℕ) → i < length xs → h ≡ get_or xs i h
+pub told_got : (xs : List Happening) (i : ℕ) (h : Happening) (closed : Option ℕ) (arrivals : List Incoming) (a : Incoming) (d : Bor Delivery) (end : ℕ) → i < length xs → h ≡ get_or xs i h
     → h.got ≡ Some d → a.posted ≡ d.now.posted → a.content.now ≡ d.now.content → a.late ≡ option_eq nat_eq closed (Some h.end.0) → IsOwn h
     → receipts_in arrivals end ++ receipts (is_closed closed end) (end_events_in (drop i xs) end) ≡ receipts false (end_events_in xs end)
     → receipts_in (arrivals ++ a ∷ []) end ++ receipts (is_closed closed end) (end_events_in (drop (i + 1) xs) end) ≡ receipts false (end_events_in xs end)

@@ -5,14 +5,14 @@ use Rattle.std.proofs.lemmas.Bool.Decides.{nat_tests}
 use Rattle.std.proofs.lemmas.List.Elements.{All-nil, All-cons, All-head, All-tail, filter-append, recursion_from_All}
 use Rattle.hub_trace.specs.declared.log_entry.Delivery.{Delivery}
 use Rattle.hub_trace.specs.declared.accepted.AcceptedEnvelope.{AcceptedEnvelope}
-use Rattle.hub_trace.specs.declared.received.Arrival.{Arrival}
+use Rattle.hub_trace.specs.declared.received.Incoming.{Incoming}
 use Rattle.hub_trace.specs.Accepted.{is_of}
 use Rattle.hub_trace.specs.Got.{Receipt}
 use Rattle.hub_trace.specs.Clean.{IsCleanLine, IsInTime, IsNoticeLast, IsPrefix}
 use Rattle.hub_trace.specs.Content.{is_notice}
 use Rattle.hub_trace.specs.Fault.{IsRight, IsFirstFault, has_notice}
 use Rattle.hub_trace.specs.Verdict.{IsLineBefore}
-use Rattle.hub_trace.specs.Views.{RisesByLine, accepted_in, got_in, receipt_of, is_before}
+use Rattle.hub_trace.specs.Views.{RisesByLine, accepted_in, got_among, receipt_of, is_before}
 use Rattle.hub_trace.proofs.Cases.{by_test}
 use Rattle.hub_trace.proofs.Order.{Each-passes, Each-weaker}
 use Rattle.hub_trace.proofs.Lines.{filter_none, filter_all}
@@ -107,10 +107,10 @@ pub nothing_is_clean : (put : List Delivery) (rs : List Receipt) → rs ≡ [] �
 nothing_is_clean put rs e = subst (IsCleanLine put) (sym e) ((put, refl), All-nil (λ r. r.late ≡ false), no_two)
 
 -- of a line either all is left, or nothing, and then it is clean
-abbrev pub IsLeft : List AcceptedEnvelope → List Arrival → List Arrival → ℕ → ℕ → Type 0
+abbrev pub IsLeft : List AcceptedEnvelope → List Incoming → List Incoming → ℕ → ℕ → Type 0
 IsLeft accepted arrivals rest end line =
-    (got_in rest end line ≡ got_in arrivals end line)
-    ⊎ (IsCleanLine (accepted_in accepted end line) (got_in arrivals end line) × (filter (λ a. is_of end line a.posted) rest ≡ []))
+    (got_among rest end line ≡ got_among arrivals end line)
+    ⊎ (IsCleanLine (accepted_in accepted end line) (got_among arrivals end line) × (filter (λ a. is_of end line a.posted) rest ≡ []))
 
 pub other_line : (a b e l x y : ℕ) → ((a == e) && (b == l)) ≡ true → ((e == x) && (l == y)) ≡ false → ((a == x) && (b == y)) ≡ false
 other_line a b e l x y h k = grind (arith, nat_tests)
@@ -127,7 +127,7 @@ self_append [] ys h = sym h
 self_append (x ∷ xs) ys h = let whole : x ∷ xs ≡ x ∷ (xs ++ ys) = h in let tails : xs ≡ xs ++ ys = cc in self_append xs ys tails
 
 -- a front of the rest that is one line, and is clean, is done with
-step_by : (accepted : List AcceptedEnvelope) (arrivals rest front after : List Arrival) (end line : ℕ)
+step_by : (accepted : List AcceptedEnvelope) (arrivals rest front after : List Incoming) (end line : ℕ)
     → front ≡ filter (λ a. is_of end line a.posted) rest
     → IsCleanLine (accepted_in accepted end line) (map receipt_of front)
     → (x y : ℕ) → filter (λ a. is_of x y a.posted) rest ≡ filter (λ a. is_of x y a.posted) front ++ filter (λ a. is_of x y a.posted) after
@@ -149,7 +149,7 @@ step_by accepted arrivals rest front after end line picked clean x y split true 
       self_append front (filter (λ a. is_of x y a.posted) after) (here ∙ split ∙ ap (λ l. l ++ filter (λ a. is_of x y a.posted) after) (filter_all (λ a. is_of x y a.posted) front at_end_line)),
     )
 
-pub step_left : (accepted : List AcceptedEnvelope) (arrivals rest front after : List Arrival) (end line : ℕ)
+pub step_left : (accepted : List AcceptedEnvelope) (arrivals rest front after : List Incoming) (end line : ℕ)
     → rest ≡ front ++ after → front ≡ filter (λ a. is_of end line a.posted) rest
     → IsCleanLine (accepted_in accepted end line) (map receipt_of front)
     → ((x y : ℕ) → IsLeft accepted arrivals rest x y) → (x y : ℕ) → IsLeft accepted arrivals after x y
@@ -158,15 +158,15 @@ step_left accepted arrivals rest front after end line cut picked clean left x y 
     (ap (filter (λ a. is_of x y a.posted)) cut ∙ filter-append (λ a. is_of x y a.posted) front after)
     ((end == x) && (line == y)) refl (left x y)
 
--- nothing is left of a line of which nothing is in the rest
-pub gone_is_clean : (accepted : List AcceptedEnvelope) (arrivals rest : List Arrival) (x y : ℕ) → filter (λ a. is_of x y a.posted) rest ≡ []
-    → IsLeft accepted arrivals rest x y → IsCleanLine (accepted_in accepted x y) (got_in arrivals x y)
+-- nothing is left of a line where the rest has nothing of it
+pub gone_is_clean : (accepted : List AcceptedEnvelope) (arrivals rest : List Incoming) (x y : ℕ) → filter (λ a. is_of x y a.posted) rest ≡ []
+    → IsLeft accepted arrivals rest x y → IsCleanLine (accepted_in accepted x y) (got_among arrivals x y)
 gone_is_clean accepted arrivals rest x y none (inr done) = done.0
-gone_is_clean accepted arrivals rest x y none (inl same) = nothing_is_clean (accepted_in accepted x y) (got_in arrivals x y) (sym same ∙ ap (map receipt_of) none)
+gone_is_clean accepted arrivals rest x y none (inl same) = nothing_is_clean (accepted_in accepted x y) (got_among arrivals x y) (sym same ∙ ap (map receipt_of) none)
 
--- of a line of which something is in the rest all is
-pub whole_line : (accepted : List AcceptedEnvelope) (arrivals rest front : List Arrival) (x y : ℕ) → front ≡ filter (λ a. is_of x y a.posted) rest → 0 < length front
-    → IsLeft accepted arrivals rest x y → map receipt_of front ≡ got_in arrivals x y
+-- where the rest has something of a line it has all of it
+pub whole_line : (accepted : List AcceptedEnvelope) (arrivals rest front : List Incoming) (x y : ℕ) → front ≡ filter (λ a. is_of x y a.posted) rest → 0 < length front
+    → IsLeft accepted arrivals rest x y → map receipt_of front ≡ got_among arrivals x y
 whole_line accepted arrivals rest front x y picked some (inl same) = ap (map receipt_of) picked ∙ same
 whole_line accepted arrivals rest front x y picked some (inr done) =
     let none : length front ≡ 0 = ap length (picked ∙ done.1) in absurd (omega arith)
@@ -176,16 +176,16 @@ before_is_before a b c d x y h (inl k) = grind (arith, nat_tests)
 before_is_before a b c d x y h (inr k) = grind (arith, nat_tests)
 
 -- nothing is of a line before that of the first
-pub earlier_line_gone : (rest : List Arrival) (x y : ℕ) (first : Arrival) → 0 < length rest → first ≡ get_or rest 0 first → RisesByLine (λ a. a.posted) rest
+pub earlier_line_gone : (rest : List Incoming) (x y : ℕ) (first : Incoming) → 0 < length rest → first ≡ get_or rest 0 first → RisesByLine (λ a. a.posted) rest
     → IsLineBefore x y first.posted.end.0 first.posted.line.0 → filter (λ a. is_of x y a.posted) rest ≡ []
 earlier_line_gone rest x y first some is rises before =
     filter_none (λ a. is_of x y a.posted) rest (recursion_from_All (λ a. is_of x y a.posted ≡ false) rest (λ k d lt.
     let a = get_or rest k d in
     let front : get_or rest 0 d ≡ first = get_or_default rest 0 d first some ∙ sym is in
-    let not_before = subst (λ (f : Arrival). is_before f.posted.end.0 f.posted.line.0 a.posted ≡ false) front (rises 0 k d (omega arith) lt) in
+    let not_before = subst (λ (f : Incoming). is_before f.posted.end.0 f.posted.line.0 a.posted ≡ false) front (rises 0 k d (omega arith) lt) in
     before_is_before a.posted.end.0 a.posted.line.0 first.posted.end.0 first.posted.line.0 x y not_before before))
 
-pub receipt_at : (got : List Arrival) (place : ℕ) (a : Arrival) → place < length got → a ≡ get_or got place a → slice_get (map receipt_of got) place ≡ Some (receipt_of a)
+pub receipt_at : (got : List Incoming) (place : ℕ) (a : Incoming) → place < length got → a ≡ get_or got place a → slice_get (map receipt_of got) place ≡ Some (receipt_of a)
 receipt_at got place a lt is = slice_get-map receipt_of got place ∙ ap (option_map receipt_of) (slice_get-get_or got place a lt) ∙ ap (λ x. Some (receipt_of x)) (sym is)
 
 -- all receipts before the place are right
@@ -193,7 +193,7 @@ abbrev pub RightBefore : List Delivery → List Receipt → ℕ → Type 0
 RightBefore put rs place = (k : ℕ) (r : Receipt) → k < place → slice_get rs k ≡ Some r → IsRight put (has_notice (take k rs)) k r
 
 -- one more receipt is right
-pub right_more : (put : List Delivery) (got : List Arrival) (place : ℕ) (a : Arrival) → place < length got → a ≡ get_or got place a
+pub right_more : (put : List Delivery) (got : List Incoming) (place : ℕ) (a : Incoming) → place < length got → a ≡ get_or got place a
     → RightBefore put (map receipt_of got) place → IsRight put (has_notice (take place (map receipt_of got))) place (receipt_of a)
     → RightBefore put (map receipt_of got) (place + 1)
 right_more put got place a lt is before here k r under at =
@@ -206,7 +206,7 @@ right_more put got place a lt is before here k r under at =
     (λ _ t. let less : k < place = grind (arith, nat_tests) in before k r less at)
     refl
 
-pub all_right : (put : List Delivery) (got : List Arrival) (place : ℕ) → length got ≤ place → RightBefore put (map receipt_of got) place → AllRight put (map receipt_of got)
+pub all_right : (put : List Delivery) (got : List Incoming) (place : ℕ) → length got ≤ place → RightBefore put (map receipt_of got) place → AllRight put (map receipt_of got)
 all_right put got place le h k r at =
     by_test (λ b. nat_lt k place ≡ b → IsRight put (has_notice (take k (map receipt_of got))) k r) (nat_lt k place)
     (λ _ t. let less : k < place = grind (arith, nat_tests) in h k r less at)
@@ -222,16 +222,16 @@ or_assoc : (a b c : Bool) → (a || (b || c)) ≡ ((a || b) || c)
 or_assoc true b c = refl
 or_assoc false b c = refl
 
-noticed_next : (got : List Arrival) (place : ℕ) (a : Arrival) → place < length got → a ≡ get_or got place a
+noticed_next : (got : List Incoming) (place : ℕ) (a : Incoming) → place < length got → a ≡ get_or got place a
     → has_notice (take (suc place) (map receipt_of got)) ≡ (has_notice (take place (map receipt_of got)) || is_notice a.content.now)
 noticed_next [] place a lt is = absurd (omega arith)
-noticed_next (x ∷ got) zero a lt is = or_false (is_notice x.content.now) ∙ ap (λ (y : Arrival). is_notice y.content.now) (sym is)
+noticed_next (x ∷ got) zero a lt is = or_false (is_notice x.content.now) ∙ ap (λ (y : Incoming). is_notice y.content.now) (sym is)
 noticed_next (x ∷ got) (suc place) a lt is =
     ap (λ b. is_notice x.content.now || b) (noticed_next got place a (omega arith) is)
     ∙ or_assoc (is_notice x.content.now) (has_notice (take place (map receipt_of got))) (is_notice a.content.now)
 
 -- whether a notice was got, with one arrival more
-pub noticed_more : (got : List Arrival) (place : ℕ) (a : Arrival) → place < length got → a ≡ get_or got place a
+pub noticed_more : (got : List Incoming) (place : ℕ) (a : Incoming) → place < length got → a ≡ get_or got place a
     → has_notice (take (place + 1) (map receipt_of got)) ≡ (has_notice (take place (map receipt_of got)) || is_notice a.content.now)
 noticed_more got place a lt is =
     let next : place + 1 ≡ suc place = omega arith in
@@ -241,6 +241,6 @@ pub list_any-map : {X Y : Type 0} (f : X → Y) (p : Y → Bool) (xs : List X) �
 list_any-map f p [] = refl
 list_any-map f p (x ∷ xs) = ap (λ b. p (f x) || b) (list_any-map f p xs)
 
-pub empty_gone : (rest : List Arrival) (x y : ℕ) → length rest ≤ 0 → filter (λ a. is_of x y a.posted) rest ≡ []
+pub empty_gone : (rest : List Incoming) (x y : ℕ) → length rest ≤ 0 → filter (λ a. is_of x y a.posted) rest ≡ []
 empty_gone [] x y h = refl
 empty_gone (a ∷ rest) x y h = absurd (omega arith)

@@ -17,11 +17,11 @@ use Rattle.std.proofs.lemmas.Map.Views.{exact_unsigned_eq}
 use Rattle.hub_trace.specs.declared.log_entry.Delivery.{Delivery}
 use Rattle.hub_trace.specs.declared.accepted.AcceptedEnvelope.{AcceptedEnvelope}
 use Rattle.hub_trace.specs.declared.received.Happening.{Happening}
-use Rattle.hub_trace.specs.declared.received.Arrival.{Arrival}
+use Rattle.hub_trace.specs.declared.received.Incoming.{Incoming}
 use Rattle.hub_trace.specs.Sorted.{inserted, sorted}
 use Rattle.hub_trace.specs.Accepted.{is_of, name_cmp}
 use Rattle.hub_trace.specs.Got.{EndEvent, Receipt, stretch_cmp}
-use Rattle.hub_trace.specs.Views.{delivery_of, end_event_of, receipt_of, accepted_in, got_in, end_events_in, receipts_in, RisesByLine, RisesByEnd}
+use Rattle.hub_trace.specs.Views.{delivery_of, end_event_of, receipt_of, accepted_in, got_among, end_events_in, receipts_in, RisesByLine, RisesByEnd}
 use Rattle.hub_trace.proofs.Cases.{by_test, then_equal, then_lt}
 use Rattle.hub_trace.proofs.Order.{arranged, map-sorted, filter-map}
 
@@ -127,7 +127,7 @@ happenings_rise ys up i j d le lt =
     not_above (get_or ys i d).end.0 (get_or ys j d).end.0 (first_not_less _ _ (sorted_far _ (ranks_by pair_total happening_key) ys up i j d le lt))
 
 -- by end and line
-abbrev pub line_key : Arrival → ℕ × ℕ
+abbrev pub line_key : Incoming → ℕ × ℕ
 line_key a = (a.posted.end.0, a.posted.line.0)
 
 at_front : {X : Type 0} (x : X) (ys : List X) → inserted (λ _ _. Equal) x ys ≡ x ∷ ys
@@ -143,8 +143,8 @@ filter_both p q [] = refl
 filter_both p q (x ∷ xs) = by_test (λ b. cond (b && q x) (x ∷ filter (λ x. p x && q x) xs) (filter (λ x. p x && q x) xs) ≡ filter q (cond b (x ∷ filter p xs) (filter p xs))) (p x)
     (λ _. (λ i. cond (q x) (x ∷ filter_both p q xs i) (filter_both p q xs i))) (λ _. filter_both p q xs)
 
-pub arrivals_sorted : (xs ys : List Arrival) → IsSortedBy (λ x y. is_lt (pair_cmp (line_key x) (line_key y))) ys → IsStableBy (λ x y. is_lt (pair_cmp (line_key x) (line_key y))) xs ys
-    → (end line : ℕ) (receipts : List Receipt) → receipts_in xs end ≡ receipts → got_in ys end line ≡ filter (λ r. r.delivery.posted.line.0 == line) receipts
+pub arrivals_sorted : (xs ys : List Incoming) → IsSortedBy (λ x y. is_lt (pair_cmp (line_key x) (line_key y))) ys → IsStableBy (λ x y. is_lt (pair_cmp (line_key x) (line_key y))) xs ys
+    → (end line : ℕ) (receipts : List Receipt) → receipts_in xs end ≡ receipts → got_among ys end line ≡ filter (λ r. r.delivery.posted.line.0 == line) receipts
 arrivals_sorted xs ys up stable end line receipts from =
     ap (map receipt_of) (arranged (on_total line_key pair_total) point_total (λ a. is_of end line a.posted)
     (λ x y p q. let s = and_true _ _ p in let t = and_true _ _ q in
@@ -156,7 +156,7 @@ arrivals_sorted xs ys up stable end line receipts from =
     ∙ sym (filter-map receipt_of (λ r. r.delivery.posted.line.0 == line) (filter (λ a. a.posted.end.0 == end) xs))
     ∙ ap (filter (λ r. r.delivery.posted.line.0 == line)) from
 
-pub arrivals_rise : (ys : List Arrival) → IsSortedBy (λ x y. is_lt (pair_cmp (line_key x) (line_key y))) ys → RisesByLine (λ a. a.posted) ys
+pub arrivals_rise : (ys : List Incoming) → IsSortedBy (λ x y. is_lt (pair_cmp (line_key x) (line_key y))) ys → RisesByLine (λ a. a.posted) ys
 arrivals_rise ys up i j d le lt =
     let x = get_or ys i d in let y = get_or ys j d in
     line_not_before y.posted.end.0 x.posted.end.0 y.posted.line.0 x.posted.line.0 (sorted_far _ (ranks_by pair_total line_key) ys up i j d le lt)

@@ -3,7 +3,7 @@ use Rattle.std.proofs.Common.{◌≡◌, ◌≢◌, ℕ, suc, ◌<◌, ◌⊎◌
 use Rattle.std.specs.List.{AllPairs, filter, flat_map, AllByRecursion as Each}
 use Rattle.std.proofs.lemmas.Bool.Decides.{nat_tests}
 use Rattle.std.proofs.lemmas.List.Elements.{recursion_from_All}
-use Rattle.hub_trace.specs.declared.delivered_line.DeliveredLine.{DeliveredLine}
+use Rattle.hub_trace.specs.declared.delivered.DeliveredLine.{DeliveredLine}
 use Rattle.hub_trace.specs.Deliveries.{DeliveriesAreOne, IsEarlierLine, names_under, parts_of}
 use Rattle.hub_trace.specs.Verdict.{IsLineBefore}
 use Rattle.hub_trace.proofs.Cases.{by_test, kept, dropped}

@@ -9,15 +9,15 @@ use Rattle.std.proofs.lemmas.Fmt.{decimal_nonempty, digits_decimal}
 use Rattle.std.proofs.lemmas.List.Elements.{All-head, All-tail}
 use Rattle.std.proofs.lemmas.List.Splits.{slice_split_none, slice_split_at}
 use Rattle.hub_envelope.specs.declared.ids.EndId.{EndId}
-use Rattle.hub_text.specs.EndList.{ends_from, ends_of, ends_text, more_ends_text, with_end}
+use Rattle.hub_text.specs.EndList.{ends_from, ends_listed, ends_text, more_ends_text, with_end}
 use Rattle.hub_text.specs.Number.{is_digit}
 use Rattle.hub_text.specs.Reading.{◌>>=◌, some_or}
 use Rattle.hub_text.proofs.EndLists.{not_none, words_of}
 use Rattle.hub_text.proofs.Numbers.{own, written_is}
-use Rattle.hub_trace.specs.declared.log_error.LogError.TheVariants.{BadLine}
+use Rattle.hub_trace.specs.declared.error.LogError.TheVariants.{BadLine}
 use Rattle.hub_trace.specs.Limits.{AreDistinct, IsPortList}
-use Rattle.hub_trace.specs.LogLine.{end_in, ports_in, ports_tested}
-use Rattle.hub_trace.specs.PortList.{has_end}
+use Rattle.hub_trace.specs.LogLine.{end_in, ports_in_logs, ports_tested}
+use Rattle.hub_trace.specs.PortList.{lists_end}
 use Rattle.hub_trace.proofs.Bytes.{All-from_Lacks, Lacks-decimal, left_of}
 use Rattle.hub_trace.proofs.PortLists.{distinct_tail, test_from_list}
 
@@ -37,12 +37,12 @@ first_apart : (x : EndId) (xs ys : List EndId) (e : EndId) → AreDistinct (x �
 first_apart x xs ys e apart same =
     apart 0 (suc (length xs)) e (omega arith) (omega (arith, length-append xs (e ∷ ys))) (same ∙ ap (λ y. y.0) (sym (at_seam xs ys e e)))
 
-pub none_before : (xs ys : List EndId) (e : EndId) → AreDistinct (xs ++ e ∷ ys) → has_end xs e.0 ≡ false
+pub none_before : (xs ys : List EndId) (e : EndId) → AreDistinct (xs ++ e ∷ ys) → lists_end xs e.0 ≡ false
 none_before [] ys e apart = refl
 none_before (x ∷ xs) ys e apart =
     let differ = first_apart x xs ys e apart in
     let other : eqb x.0 e.0 ≡ false = grind (arith, nat_tests) in
-    ap (λ b. b || has_end xs e.0) other ∙ none_before xs ys e (distinct_tail x (xs ++ e ∷ ys) apart)
+    ap (λ b. b || lists_end xs e.0) other ∙ none_before xs ys e (distinct_tail x (xs ++ e ∷ ys) apart)
 
 -- ---- the words of the list
 
@@ -79,8 +79,8 @@ not_dash (b ∷ word) rest some digits =
     let other : eqb b 45 ≡ false = grind (arith, nat_tests) in
     ap (λ t. t && bytes_eq (word ++ rest) []) other
 
-list_back : (ends : List EndId) → All (λ x. x.0 ≤ 65535) ends → ends_of 65535 (ends_text ends) ≡ Some ends
-unfolding ends_of
+list_back : (ends : List EndId) → All (λ x. x.0 ≤ 65535) ends → ends_listed 65535 (ends_text ends) ≡ Some ends
+unfolding ends_listed
 list_back [] known = refl
 list_back (e ∷ ends) known =
     let small = small_end e.0 (All-head (λ (x : EndId). x.0 ≤ 65535) e ends known) in
@@ -88,8 +88,8 @@ list_back (e ∷ ends) known =
     ∙ ap (ends_from 65535 []) (words_back e ends known)
     ∙ ends_back [] (e ∷ ends) known
 
-pub ports-back : (ends : List EndId) → IsPortList ends → ports_in (ends_text ends) ≡ Ok ends
-unfolding ports_in
+pub ports-back : (ends : List EndId) → IsPortList ends → ports_in_logs (ends_text ends) ≡ Ok ends
+unfolding ports_in_logs
 ports-back ends h =
     ap (λ (r : Option (List EndId)). some_or BadLine r >>= ports_tested) (list_back ends h.known)
     ∙ ap (λ b. cond b (Ok ends) (Err BadLine)) (test_from_list ends h)

@@ -3,13 +3,13 @@ use Rattle.std.proofs.Common.{◌≡◌, ℕ, ◌+◌, ◌<◌, List, [], ◌∷
 use Rattle.hub_trace.specs.declared.log_version.LogVersion.{LogVersion}
 use Rattle.hub_trace.specs.LogVersion.{header_of, version_of}
 use Rattle.hub_trace.specs.declared.read.TheConstants.{LOGS_END}
-use Rattle.hub_trace.specs.declared.log_error.LogError.{LogError}
-use Rattle.hub_trace.specs.declared.log_error.LogError.TheVariants as error
+use Rattle.hub_trace.specs.declared.error.LogError.{LogError}
+use Rattle.hub_trace.specs.declared.error.LogError.TheVariants as error
 use Rattle.hub_trace.specs.Accepted.{AgentLog}
 use Rattle.hub_text.specs.TextLines.{text_lines_of}
 use Rattle.hub_trace.specs.LogLine.{LogRead}
-use Rattle.hub_trace.specs.Read.{ComesAt, HasHeader, HasHeaderOf, HasOtherHeader, after_line, below_header, line_added, logs_below, logs_from, logs_of}
-use Rattle.hub_trace.specs.ReadMemory.{TakesMemory, TakesMemoryAt}
+use Rattle.hub_trace.specs.Read.{ComesAt, HasHeader, HasHeaderOf, HasOtherHeader, after_log_line, below_header, line_added, logs_below, logs_from, logs_of}
+use Rattle.hub_trace.specs.ReadMemory.{ReadingTakesMemory, TakesMemoryAt}
 use Rattle.hub_trace.proofs.BadLines.{bad_line}
 use Rattle.hub_trace.proofs.Versions.{header_found}
 
@@ -28,7 +28,7 @@ one_gone bytes n rest line after gone cut = (
   (let count : n ≡ length gone.0 = gone.2 in simp length-append (omega arith)),
 )
 
-pub takes_at : (v : LogVersion) (bytes : List ℕ) (n : ℕ) (rest line after : List ℕ) → HasHeaderOf v bytes → HasGone bytes n rest → text_lines_of rest ≡ line ∷ text_lines_of after → TakesMemory v line → TakesMemoryAt bytes (n + 1)
+pub takes_at : (v : LogVersion) (bytes : List ℕ) (n : ℕ) (rest line after : List ℕ) → HasHeaderOf v bytes → HasGone bytes n rest → text_lines_of rest ≡ line ∷ text_lines_of after → ReadingTakesMemory v line → TakesMemoryAt bytes (n + 1)
 takes_at v bytes n rest line after header gone cut takes = record {
   version = v;
   header = header;
@@ -53,7 +53,7 @@ pub nothing_read : (bytes : List ℕ) → length bytes ≡ 0 → logs_of bytes �
 nothing_read bytes h = ap below_header (no_bytes bytes h)
 
 one_line : (v : LogVersion) (bytes : List ℕ) (n : ℕ) (logs : List AgentLog) (rest line after : List ℕ) → IsReadSoFar v bytes n logs rest → text_lines_of rest ≡ line ∷ text_lines_of after
-    → logs_of bytes ≡ cond (bytes_eq line LOGS_END.now) (Ok logs) (after_line (n + 1) (line_added v logs line) (λ longer. logs_from v (n + 1 + 1) longer (text_lines_of after)))
+    → logs_of bytes ≡ cond (bytes_eq line LOGS_END.now) (Ok logs) (after_log_line (n + 1) (line_added v logs line) (λ longer. logs_from v (n + 1 + 1) longer (text_lines_of after)))
 unfolding logs_from
 one_line v bytes n logs rest line after so_far cut = sym so_far ∙ ap (logs_from v (n + 1) logs) cut
 
@@ -61,24 +61,24 @@ pub at_end : (v : LogVersion) (bytes : List ℕ) (n : ℕ) (logs : List AgentLog
     → bytes_eq line LOGS_END.now ≡ true → logs_of bytes ≡ Ok logs
 at_end v bytes n logs rest line after so_far cut ends =
     one_line v bytes n logs rest line after so_far cut
-    ∙ ap (λ b. cond b (Ok logs) (after_line (n + 1) (line_added v logs line) (λ longer. logs_from v (n + 1 + 1) longer (text_lines_of after)))) ends
+    ∙ ap (λ b. cond b (Ok logs) (after_log_line (n + 1) (line_added v logs line) (λ longer. logs_from v (n + 1 + 1) longer (text_lines_of after)))) ends
 
 further : (v : LogVersion) (bytes : List ℕ) (n : ℕ) (logs : List AgentLog) (rest line after : List ℕ) → IsReadSoFar v bytes n logs rest → text_lines_of rest ≡ line ∷ text_lines_of after
-    → bytes_eq line LOGS_END.now ≡ false → logs_of bytes ≡ after_line (n + 1) (line_added v logs line) (λ longer. logs_from v (n + 1 + 1) longer (text_lines_of after))
+    → bytes_eq line LOGS_END.now ≡ false → logs_of bytes ≡ after_log_line (n + 1) (line_added v logs line) (λ longer. logs_from v (n + 1 + 1) longer (text_lines_of after))
 further v bytes n logs rest line after so_far cut ends =
     one_line v bytes n logs rest line after so_far cut
-    ∙ ap (λ b. cond b (Ok logs) (after_line (n + 1) (line_added v logs line) (λ longer. logs_from v (n + 1 + 1) longer (text_lines_of after)))) ends
+    ∙ ap (λ b. cond b (Ok logs) (after_log_line (n + 1) (line_added v logs line) (λ longer. logs_from v (n + 1 + 1) longer (text_lines_of after)))) ends
 
 pub one_more : (v : LogVersion) (bytes : List ℕ) (n : ℕ) (logs longer : List AgentLog) (rest line after : List ℕ) → IsReadSoFar v bytes n logs rest → text_lines_of rest ≡ line ∷ text_lines_of after
     → bytes_eq line LOGS_END.now ≡ false → line_added v logs line ≡ Ok longer → IsReadSoFar v bytes (n + 1) longer after
 one_more v bytes n logs longer rest line after so_far cut ends added =
-    sym (further v bytes n logs rest line after so_far cut ends ∙ ap (λ (r : LogRead (List AgentLog)). after_line (n + 1) r (λ x. logs_from v (n + 1 + 1) x (text_lines_of after))) added)
+    sym (further v bytes n logs rest line after so_far cut ends ∙ ap (λ (r : LogRead (List AgentLog)). after_log_line (n + 1) r (λ x. logs_from v (n + 1 + 1) x (text_lines_of after))) added)
 
 pub refused : (v : LogVersion) (e : LogError) (bytes : List ℕ) (n : ℕ) (logs : List AgentLog) (rest line after : List ℕ) → IsReadSoFar v bytes n logs rest → text_lines_of rest ≡ line ∷ text_lines_of after
     → bytes_eq line LOGS_END.now ≡ false → (e ≡ error.OutOfMemory) ⊎ (line_added v logs line ≡ Err e) → (e ≡ error.OutOfMemory) ⊎ (logs_of bytes ≡ Err (n + 1, e))
 refused v e bytes n logs rest line after so_far cut ends (inl memory) = inl memory
 refused v e bytes n logs rest line after so_far cut ends (inr bad) =
-    inr (further v bytes n logs rest line after so_far cut ends ∙ ap (λ (r : LogRead (List AgentLog)). after_line (n + 1) r (λ x. logs_from v (n + 1 + 1) x (text_lines_of after))) bad)
+    inr (further v bytes n logs rest line after so_far cut ends ∙ ap (λ (r : LogRead (List AgentLog)). after_log_line (n + 1) r (λ x. logs_from v (n + 1 + 1) x (text_lines_of after))) bad)
 
 pub comes_below : (v : LogVersion) (e : LogError) (bytes : List ℕ) (n : ℕ) (logs : List AgentLog) (line : List ℕ) → HasHeader bytes → 0 < n → (e ≡ error.OutOfMemory) ⊎ (line_added v logs line ≡ Err e) → ComesAt bytes (n + 1) e
 comes_below v e bytes n logs line header some (inl memory) = subst (ComesAt bytes (n + 1)) (sym memory) (omega arith, header)

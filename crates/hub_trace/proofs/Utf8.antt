@@ -8,7 +8,7 @@ use Rattle.hub_envelope.specs.declared.ids.AgentId.{AgentId}
 use Rattle.hub_envelope.specs.declared.ids.EndId.{EndId}
 use Rattle.hub_text.specs.EndList.{ends_text, more_ends_text}
 use Rattle.hub_trace.specs.declared.content.Content.{Content}
-use Rattle.hub_trace.specs.declared.content.Content.TheVariants.{Message, Notice}
+use Rattle.hub_trace.specs.declared.content.Content.TheVariants.{Payload, Notice}
 use Rattle.hub_trace.specs.declared.log_version.LogVersion.{LogVersion}
 use Rattle.hub_trace.specs.declared.log_entry.Delivery.{Delivery}
 use Rattle.hub_trace.specs.declared.log_entry.LogEntry.{LogEntry}
@@ -60,7 +60,7 @@ notice_utf8 : IsUtf8 (codes "notice")
 notice_utf8 = search rules
 
 content_utf8 : (v : LogVersion) (c : Content) → IsContentWithin v c → IsUtf8 (content_text c)
-content_utf8 v (Message m) h = subst IsUtf8 (sym (two_words (ends_text m.0) m.1)) (pair (ends_text m.0) m.1 32 (ports_utf8 m.0 h.ports) (omega arith) h.body.utf8)
+content_utf8 v (Payload m) h = subst IsUtf8 (sym (two_words (ends_text m.0) m.1)) (pair (ends_text m.0) m.1 32 (ports_utf8 m.0 h.ports) (omega arith) h.body.utf8)
 content_utf8 v Notice h = notice_utf8
 
 delivery_utf8 : (v : LogVersion) (d : Delivery) → IsDeliveryWithin v d → IsUtf8 (delivery_text d)

@@ -3,7 +3,7 @@ use Rattle.std.proofs.Common.{◌≡◌, ℕ, ◌≤◌, List, true, cond, lengt
 use Rattle.std.specs.Cmp.Lexicographic.{bytes_decides}
 use Rattle.hub_envelope.specs.BodyText.{IsBodyText}
 use Rattle.hub_trace.specs.declared.content.Content.{Content}
-use Rattle.hub_trace.specs.declared.content.Content.TheVariants.{Message, Notice}
+use Rattle.hub_trace.specs.declared.content.Content.TheVariants.{Payload, Notice}
 use Rattle.hub_envelope.specs.declared.posted.Posted.{Posted}
 use Rattle.hub_trace.specs.declared.log_entry.Delivery.{Delivery}
 use Rattle.hub_trace.specs.declared.log_entry.LogEntry.{LogEntry}
@@ -33,7 +33,7 @@ posted_wider v l h = record {
 }
 
 content_wider : (v : LogVersion) (c : Content) → IsContentWithin v c → IsContentWithin Third c
-content_wider v (Message m) h = record { ports = h.ports; body = h.body; short = body_short m.1 h.body }
+content_wider v (Payload m) h = record { ports = h.ports; body = h.body; short = body_short m.1 h.body }
 content_wider v Notice h = refl
 
 delivery_wider : (v : LogVersion) (d : Delivery) → IsDeliveryWithin v d → IsDeliveryWithin Third d

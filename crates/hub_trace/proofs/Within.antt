@@ -8,15 +8,15 @@ use Rattle.hub_envelope.specs.declared.ids.EndId.{EndId}
 use Rattle.hub_text.specs.Reading.{IsReadAs}
 use Rattle.hub_trace.specs.declared.log_entry.LogEntry.{LogEntry}
 use Rattle.hub_trace.specs.declared.log_entry.LogEntry.TheVariants.{Put, Got, Adopted, Closed}
-use Rattle.hub_trace.specs.declared.log_error.LogError.TheVariants.{BadLine}
+use Rattle.hub_trace.specs.declared.error.LogError.TheVariants.{BadLine}
 use Rattle.hub_trace.specs.declared.log_line.LogLine.{LogLine}
 use Rattle.hub_trace.specs.declared.log_line.LogLine.TheVariants as line
 use Rattle.hub_trace.specs.declared.log_version.LogVersion.{LogVersion}
 use Rattle.hub_trace.specs.Accepted.{AgentLog}
 use Rattle.hub_trace.specs.Closings.{all_closings, closes_again, closes_one, closings, is_closed_by}
 use Rattle.hub_trace.specs.Limits.{AreDistinct, AreWithin, IsEntryWithin, IsLogLineWithin, IsLogWithin}
-use Rattle.hub_trace.specs.PortList.{has_end}
-use Rattle.hub_trace.specs.Read.{with_entry, with_line}
+use Rattle.hub_trace.specs.PortList.{lists_end}
+use Rattle.hub_trace.specs.Read.{with_entry, with_log_line}
 use Rattle.hub_trace.proofs.Adding.{all_closings_more, any_append, closings_more}
 use Rattle.hub_trace.proofs.PortLists.{distinct_more, first_no, no_pairs, second_no}
 
@@ -27,14 +27,14 @@ closes_here log logs (Put d) h = refl
 closes_here log logs (Got d) h = refl
 closes_here log logs (Adopted x k) h = refl
 closes_here log logs (Closed x) h =
-    first_no (has_end (closings log.1) x.0) (has_end (all_closings logs) x.0) (sym (any_append (λ y. y.0 == x.0) (closings log.1) (all_closings logs)) ∙ h)
+    first_no (lists_end (closings log.1) x.0) (lists_end (all_closings logs) x.0) (sym (any_append (λ y. y.0 == x.0) (closings log.1) (all_closings logs)) ∙ h)
 
 closes_later : (log : AgentLog) (logs : List AgentLog) (e : LogEntry) → closes_again (log ∷ logs) e ≡ false → closes_again logs e ≡ false
 closes_later log logs (Put d) h = refl
 closes_later log logs (Got d) h = refl
 closes_later log logs (Adopted x k) h = refl
 closes_later log logs (Closed x) h =
-    second_no (has_end (closings log.1) x.0) (has_end (all_closings logs) x.0) (sym (any_append (λ y. y.0 == x.0) (closings log.1) (all_closings logs)) ∙ h)
+    second_no (lists_end (closings log.1) x.0) (lists_end (all_closings logs) x.0) (sym (any_append (λ y. y.0 == x.0) (closings log.1) (all_closings logs)) ∙ h)
 
 -- an end that no log closes isn't closed by one of them
 pub not_closed_by : (logs : List AgentLog) (n : ℕ) (log : AgentLog) (e : LogEntry) → n < length logs → log ≡ get_or logs n log → closes_again logs e ≡ false → closes_one (is_closed_by log.1) e ≡ false
@@ -46,7 +46,7 @@ append_nil : (xs : List EndId) → xs ++ [] ≡ xs
 append_nil [] = refl
 append_nil (x ∷ xs) = ap (λ ys. x ∷ ys) (append_nil xs)
 
-closed_once_more : (ends : List EndId) (e : LogEntry) → AreDistinct ends → closes_one (has_end ends) e ≡ false → AreDistinct (ends ++ closings (e ∷ []))
+closed_once_more : (ends : List EndId) (e : LogEntry) → AreDistinct ends → closes_one (lists_end ends) e ≡ false → AreDistinct (ends ++ closings (e ∷ []))
 closed_once_more ends (Put d) h fresh = subst AreDistinct (sym (append_nil ends)) h
 closed_once_more ends (Got d) h fresh = subst AreDistinct (sym (append_nil ends)) h
 closed_once_more ends (Adopted x k) h fresh = subst AreDistinct (sym (append_nil ends)) h
@@ -87,7 +87,7 @@ added v l logs new e false again made h within =
     })
 
 -- logs within the limits stay so with a log line within the limits
-pub line_within : (v : LogVersion) (logs new : List AgentLog) (l : LogLine) → with_line logs l ≡ Ok new → IsLogLineWithin v l → AreWithin v logs → AreWithin v new
+pub line_within : (v : LogVersion) (logs new : List AgentLog) (l : LogLine) → with_log_line logs l ≡ Ok new → IsLogLineWithin v l → AreWithin v logs → AreWithin v new
 line_within v logs new (line.Agent a) made within h =
     let is : logs ++ (a, []) ∷ [] ≡ new = cc in
     subst (AreWithin v) is (record {

@@ -16,14 +16,14 @@ use Rattle.hub_trace.specs.declared.log_entry.LogEntry.TheVariants.{Put, Got, Ad
 use Rattle.hub_trace.specs.declared.log_line.LogLine.{LogLine}
 use Rattle.hub_trace.specs.declared.log.TheConstants.{LOG_HEADER}
 use Rattle.hub_trace.specs.declared.read.TheConstants.{LOGS_END}
-use Rattle.hub_trace.specs.declared.log_error.LogError.{LogError}
-use Rattle.hub_trace.specs.declared.log_error.LogError.TheVariants as error
+use Rattle.hub_trace.specs.declared.error.LogError.{LogError}
+use Rattle.hub_trace.specs.declared.error.LogError.TheVariants as error
 use Rattle.hub_trace.specs.declared.log_version.LogVersion.TheVariants.{Third}
 use Rattle.hub_trace.specs.Accepted.{AgentLog}
 use Rattle.hub_trace.specs.Closings.{all_closings, closes_again, closings}
 use Rattle.hub_trace.specs.Limits.{AreDistinct, AreWithin, IsEntryWithin, IsLogWithin}
 use Rattle.hub_trace.specs.LogLine.{LogRead}
-use Rattle.hub_trace.specs.Read.{after_line, below_header, line_added, logs_from, logs_of, with_entry, with_line}
+use Rattle.hub_trace.specs.Read.{after_log_line, below_header, line_added, logs_from, logs_of, with_entry, with_log_line}
 use Rattle.hub_trace.specs.Text.{entry_text, file_text, log_text}
 use Rattle.hub_trace.proofs.Adding.{may_add}
 use Rattle.hub_trace.proofs.Bytes.{All-from_Lacks, HasOnly, Lacks-visible, is_visible}
@@ -46,8 +46,8 @@ line_more : (all logs longer : List AgentLog) (text rest : List ℕ) → HasOnly
 unfolding logs_from
 line_more all logs longer text rest visible other added gives n =
     ap (logs_from Third n logs) (line_before text rest (no_end text visible))
-    ∙ ap (λ b. cond b (Ok logs) (after_line n (line_added Third logs text) (λ x. logs_from Third (n + 1) x (text_lines_of rest)))) other
-    ∙ ap (λ (r : LogRead (List AgentLog)). after_line n r (λ x. logs_from Third (n + 1) x (text_lines_of rest))) added
+    ∙ ap (λ b. cond b (Ok logs) (after_log_line n (line_added Third logs text) (λ x. logs_from Third (n + 1) x (text_lines_of rest)))) other
+    ∙ ap (λ (r : LogRead (List AgentLog)). after_log_line n r (λ x. logs_from Third (n + 1) x (text_lines_of rest))) added
     ∙ gives (n + 1)
 
 -- ---- what the entries close
@@ -101,7 +101,7 @@ entry_added : (done : List AgentLog) (a : AgentId) (past : List LogEntry) (e : L
     → line_added Third (done ++ ((a, past) ∷ [])) (entry_text e) ≡ Ok (done ++ ((a, past ++ (e ∷ [])) ∷ []))
 entry_added done a past e within once =
     let logs = done ++ ((a, past) ∷ []) in
-    ap (λ (r : LogRead LogLine). r >>= with_line logs) (entry-back Third e within)
+    ap (λ (r : LogRead LogLine). r >>= with_log_line logs) (entry-back Third e within)
     ∙ may_add logs e (omega (arith, length-append done ((a, past) ∷ []))) once
     ∙ ap (λ (xs : List AgentLog). Ok xs) (in_newest done a past e)
 
@@ -121,7 +121,7 @@ entries_more all done a past (e ∷ es) others rest within distinct gives =
 -- ---- logs
 
 agent_added : (done : List AgentLog) (a : AgentId) → a.0 ≤ 15 → line_added Third done (codes "agent " ++ decimal a.0) ≡ Ok (done ++ ((a, []) ∷ []))
-agent_added done a le = ap (λ (r : LogRead LogLine). r >>= with_line done) (agent-back Third a le)
+agent_added done a le = ap (λ (r : LogRead LogLine). r >>= with_log_line done) (agent-back Third a le)
 
 logs_more : (all done logs : List AgentLog) (tail : List ℕ) → All (IsLogWithin Third) logs → AreDistinct (all_closings (done ++ logs)) → GivesAll all (done ++ logs) tail → GivesAll all done (logs_text logs ++ tail)
 logs_more all done [] tail within distinct gives = subst (λ (xs : List AgentLog). GivesAll all xs tail) (append-nil done) gives

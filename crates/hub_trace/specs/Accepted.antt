@@ -5,7 +5,7 @@ use Rattle.std.specs.declared.cmp.Ordering.{Ordering}
 use Rattle.std.specs.Ordering.{nat_cmp, ordering_then}
 use Rattle.hub_envelope.specs.declared.ids.AgentId.{AgentId}
 use Rattle.hub_envelope.specs.declared.ids.EndId.{EndId}
-use Rattle.hub_trace.specs.declared.content.Content.TheVariants.{Message, Notice}
+use Rattle.hub_trace.specs.declared.content.Content.TheVariants.{Payload, Notice}
 use Rattle.hub_envelope.specs.declared.posted.Posted.{Posted}
 use Rattle.hub_trace.specs.declared.log_entry.Delivery.{Delivery}
 use Rattle.hub_trace.specs.declared.log_entry.LogEntry.{LogEntry}
@@ -22,7 +22,7 @@ log_with log e = (log.0, log.1 ++ e ∷ [])
 
 -- the message of these ports and this body, under its name
 abbrev pub message_at : Posted → List EndId → List ℕ → Delivery
-message_at posted ports body = record { posted = posted; content = Message (ports, body) }
+message_at posted ports body = record { posted = posted; content = Payload (ports, body) }
 
 -- a notice, under its name
 abbrev pub notice_at : Posted → Delivery

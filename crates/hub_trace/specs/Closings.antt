@@ -5,7 +5,7 @@ use Rattle.hub_envelope.specs.declared.ids.EndId.{EndId}
 use Rattle.hub_trace.specs.declared.log_entry.LogEntry.{LogEntry}
 use Rattle.hub_trace.specs.declared.log_entry.LogEntry.TheVariants.{Put, Got, Adopted, Closed}
 use Rattle.hub_trace.specs.Accepted.{AgentLog}
-use Rattle.hub_trace.specs.PortList.{has_end}
+use Rattle.hub_trace.specs.PortList.{lists_end}
 
 -- the ends that the entries close
 abbrev pub closings : List LogEntry → List EndId
@@ -20,11 +20,11 @@ all_closings logs = flat_map (λ log. closings log.1) logs
 
 -- whether the entries close the end of that number
 abbrev pub is_closed_by : List LogEntry → ℕ → Bool
-is_closed_by entries end = has_end (closings entries) end
+is_closed_by entries end = lists_end (closings entries) end
 
 -- whether the logs close the end of that number
 abbrev pub is_closed_in : List AgentLog → ℕ → Bool
-is_closed_in logs end = has_end (all_closings logs) end
+is_closed_in logs end = lists_end (all_closings logs) end
 
 -- whether the entry closes an end that passes the test
 abbrev pub closes_one : (ℕ → Bool) → LogEntry → Bool

@@ -1,8 +1,8 @@
 -- Messages and notices.
 use Rattle.std.specs.Prelude.{Bool, true, false}
 use Rattle.hub_trace.specs.declared.content.Content.{Content}
-use Rattle.hub_trace.specs.declared.content.Content.TheVariants.{Message, Notice}
+use Rattle.hub_trace.specs.declared.content.Content.TheVariants.{Payload, Notice}
 
 abbrev pub is_notice : Content → Bool
-is_notice (Message m) = false
+is_notice (Payload m) = false
 is_notice Notice = true

@@ -4,21 +4,21 @@ use Rattle.std.specs.Fmt.{decimal}
 use Rattle.std.specs.List.{All, AllPairs, filter, flat_map}
 use Rattle.hub_envelope.specs.declared.ids.EndId.{EndId}
 use Rattle.hub_envelope.specs.declared.ids.LineId.{LineId}
-use Rattle.hub_trace.specs.declared.delivered_line.DeliveredLine.{DeliveredLine}
+use Rattle.hub_trace.specs.declared.delivered.DeliveredLine.{DeliveredLine}
 use Rattle.hub_envelope.specs.declared.posted.Posted.{Posted}
 use Rattle.hub_trace.specs.Accepted.{AgentLog}
 use Rattle.hub_trace.specs.Got.{Receipt, got}
 use Rattle.hub_trace.specs.Verdict.{IsLineBefore}
 
 -- ` EP:N`
-abbrev pub name_text : Posted → List ℕ
-name_text l = codes " " ++ decimal l.epoch ++ codes ":" ++ decimal l.number
+abbrev pub name_printed : Posted → List ℕ
+name_printed l = codes " " ++ decimal l.epoch ++ codes ":" ++ decimal l.number
 
 -- `end E line L EP:N EP:N ..`
 abbrev pub delivered_line_text : DeliveredLine → List ℕ
 delivered_line_text d =
     codes "end " ++ decimal d.end.0 ++ codes " line " ++ decimal d.line.0
-    ++ flat_map name_text d.names.items
+    ++ flat_map name_printed d.names.items
 
 -- the names of what was got
 abbrev pub names_of : List Receipt → List Posted
@@ -33,7 +33,7 @@ names_under end line lines =
 abbrev pub IsEarlierLine : DeliveredLine → DeliveredLine → Type 0
 IsEarlierLine a b = IsLineBefore a.end.0 a.line.0 b.end.0 b.line.0
 
--- each line of which something was got, with the names of all that was got of it
+-- each line that delivered something, with the names of all that it delivered
 pub record AreDeliveries (logs : List AgentLog) (lines : List DeliveredLine) : Type 0 where
   pub rising : AllPairs IsEarlierLine lines
   pub none_empty : All (λ d. d.names.items ≢ []) lines

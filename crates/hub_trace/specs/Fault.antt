@@ -16,21 +16,21 @@ has_notice receipts = list_any (λ r. is_notice r.delivery.content) receipts
 abbrev pub IsRight : List Delivery → Bool → ℕ → Receipt → Type 0
 IsRight put noticed place r = (r.late ≡ false) × (noticed ≡ false) × (slice_get put place ≡ Some r.delivery)
 
-abbrev pub has_name : Posted → Posted → Bool
-has_name a b = (a.epoch == b.epoch) && (a.number == b.number)
+abbrev pub is_name_of : Posted → Posted → Bool
+is_name_of a b = (a.epoch == b.epoch) && (a.number == b.number)
 
-abbrev pub is_named : Option Delivery → Posted → Bool
-is_named None posted = false
-is_named (Some d) posted = has_name d.posted posted
+abbrev pub names_delivery : Option Delivery → Posted → Bool
+names_delivery None posted = false
+names_delivery (Some d) posted = is_name_of d.posted posted
 
 -- what is wrong with a receipt that is not right, by what was accepted and what was got earlier: the first kind that fits
 abbrev pub kind_at : List Delivery → List Receipt → ℕ → Receipt → FaultKind
 kind_at put earlier place r =
     if r.late then AfterClose
     else (if has_notice earlier then AfterNotice
-    else (if is_named (slice_get put place) r.delivery.posted then Changed
-    else (if list_any (λ e. has_name e.delivery.posted r.delivery.posted) earlier then Twice
-    else (if list_any (λ d. has_name d.posted r.delivery.posted) put then Gap
+    else (if names_delivery (slice_get put place) r.delivery.posted then Changed
+    else (if list_any (λ e. is_name_of e.delivery.posted r.delivery.posted) earlier then Twice
+    else (if list_any (λ d. is_name_of d.posted r.delivery.posted) put then Gap
     else Foreign))))
 
 -- the receipt at the place is wrong, all before it are right, and this kind is the first that fits

@@ -38,8 +38,8 @@ abbrev pub stretch_cmp : EndEvent → EndEvent → Ordering
 stretch_cmp a b = nat_cmp a.stretch b.stretch
 
 -- the stretches joined in rising order, those of equal epochs in the order of the logs
-abbrev pub joined : List AgentLog → ℕ → List EndEvent
-joined logs end = sorted stretch_cmp (all_end_events logs end)
+abbrev pub stretches_joined : List AgentLog → ℕ → List EndEvent
+stretches_joined logs end = sorted stretch_cmp (all_end_events logs end)
 
 -- what was got by one event, given whether the end is closed before it
 abbrev pub receipt : Bool → Option Delivery → List Receipt
@@ -58,4 +58,4 @@ receipts closed (e ∷ rest) = receipt closed e.got ++ receipts (is_closed_after
 
 -- the got list of a line
 unfoldable pub got : List AgentLog → ℕ → ℕ → List Receipt
-got logs end line = filter (λ r. r.delivery.posted.line.0 == line) (receipts false (joined logs end))
+got logs end line = filter (λ r. r.delivery.posted.line.0 == line) (receipts false (stretches_joined logs end))

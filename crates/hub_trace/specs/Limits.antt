@@ -10,7 +10,7 @@ use Rattle.hub_trace.specs.declared.log_entry.LogEntry.TheVariants.{Put, Got, Ad
 use Rattle.hub_envelope.specs.declared.posted.Posted.{Posted}
 use Rattle.hub_trace.specs.declared.limits.TheConstants.{MAX_AGENT, MAX_END, MAX_EPOCH, MAX_NUMBER}
 use Rattle.hub_trace.specs.declared.content.Content.{Content}
-use Rattle.hub_trace.specs.declared.content.Content.TheVariants.{Message, Notice}
+use Rattle.hub_trace.specs.declared.content.Content.TheVariants.{Payload, Notice}
 use Rattle.hub_trace.specs.declared.log_version.LogVersion.{LogVersion}
 use Rattle.hub_trace.specs.LogVersion.{has_notices, max_body, max_line}
 use Rattle.hub_trace.specs.declared.log_line.LogLine.{LogLine}
@@ -42,7 +42,7 @@ pub record IsMessageWithin (v : LogVersion) (message : List EndId × List ℕ) :
   pub short : length message.1 ≤ max_body v
 
 abbrev pub IsContentWithin : LogVersion → Content → Type 0
-IsContentWithin v (Message m) = IsMessageWithin v m
+IsContentWithin v (Payload m) = IsMessageWithin v m
 IsContentWithin v Notice = has_notices v ≡ true
 
 pub record IsDeliveryWithin (v : LogVersion) (d : Delivery) : Type 0 where

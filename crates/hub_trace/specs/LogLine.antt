@@ -6,20 +6,20 @@ use Rattle.hub_envelope.specs.declared.body.BodyError.{BodyError}
 use Rattle.hub_envelope.specs.declared.ids.AgentId.{AgentId}
 use Rattle.hub_envelope.specs.declared.ids.EndId.{EndId}
 use Rattle.hub_envelope.specs.declared.ids.LineId.{LineId}
-use Rattle.hub_text.specs.EndList.{ends_of}
+use Rattle.hub_text.specs.EndList.{ends_listed}
 use Rattle.hub_text.specs.Number.{number_of}
 use Rattle.hub_text.specs.Reading.{◌>>=◌, some_or}
 use Rattle.hub_text.specs.Word.{cut}
 use Rattle.hub_trace.specs.declared.content.Content.{Content}
-use Rattle.hub_trace.specs.declared.content.Content.TheVariants.{Message, Notice}
+use Rattle.hub_trace.specs.declared.content.Content.TheVariants.{Payload, Notice}
 use Rattle.hub_envelope.specs.declared.posted.Posted.{Posted}
 use Rattle.hub_trace.specs.declared.log_version.LogVersion.{LogVersion}
 use Rattle.hub_trace.specs.LogVersion.{has_notices, max_body, max_line}
 use Rattle.hub_trace.specs.declared.limits.TheConstants.{MAX_AGENT, MAX_END, MAX_EPOCH, MAX_NUMBER}
 use Rattle.hub_trace.specs.declared.log_entry.Delivery.{Delivery}
 use Rattle.hub_trace.specs.declared.log_entry.LogEntry.TheVariants.{Put, Got, Adopted, Closed}
-use Rattle.hub_trace.specs.declared.log_error.LogError.{LogError}
-use Rattle.hub_trace.specs.declared.log_error.LogError.TheVariants.{BadLine}
+use Rattle.hub_trace.specs.declared.error.LogError.{LogError}
+use Rattle.hub_trace.specs.declared.error.LogError.TheVariants.{BadLine}
 use Rattle.hub_trace.specs.declared.log_line.LogLine.{LogLine}
 use Rattle.hub_trace.specs.declared.log_line.LogLine.TheVariants as line
 use Rattle.hub_trace.specs.PortList.{is_port_list}
@@ -33,30 +33,30 @@ abbrev pub parts_in : ℕ → List ℕ → LogRead (List ℕ × List ℕ)
 parts_in c text = some_or BadLine (cut c text)
 
 -- decimal digits without leading zeros, at most max
-abbrev pub number_in : ℕ → List ℕ → LogRead ℕ
-number_in max word = some_or BadLine (number_of max word)
+abbrev pub number_in_logs : ℕ → List ℕ → LogRead ℕ
+number_in_logs max word = some_or BadLine (number_of max word)
 
 abbrev pub agent_in : List ℕ → LogRead AgentId
-agent_in word = number_in MAX_AGENT word >>= λ n. Ok (record { 0 = n })
+agent_in word = number_in_logs MAX_AGENT word >>= λ n. Ok (record { 0 = n })
 
 abbrev pub end_in : List ℕ → LogRead EndId
-end_in word = number_in MAX_END word >>= λ n. Ok (record { 0 = n })
+end_in word = number_in_logs MAX_END word >>= λ n. Ok (record { 0 = n })
 
 -- in logs of the version
-abbrev pub line_in : LogVersion → List ℕ → LogRead LineId
-line_in v word = number_in (max_line v) word >>= λ n. Ok (record { 0 = n })
+abbrev pub line_in_logs : LogVersion → List ℕ → LogRead LineId
+line_in_logs v word = number_in_logs (max_line v) word >>= λ n. Ok (record { 0 = n })
 
 abbrev pub epoch_in : List ℕ → LogRead ℕ
-epoch_in word = number_in MAX_EPOCH word
+epoch_in word = number_in_logs MAX_EPOCH word
 
 -- `EP:N`, after the words of an end and a line
 unfoldable pub posted_in : LogVersion → List ℕ → List ℕ → List ℕ → LogRead Posted
 posted_in v end line name = do
   parts ← parts_in 58 name
   e ← end_in end
-  l ← line_in v line
+  l ← line_in_logs v line
   epoch ← epoch_in parts.0
-  number ← number_in MAX_NUMBER parts.1
+  number ← number_in_logs MAX_NUMBER parts.1
   Ok (record { end = e; line = l; epoch = epoch; number = number })
 
 -- the ends, where a log may have them as its list of ports
@@ -64,8 +64,8 @@ abbrev pub ports_tested : List EndId → LogRead (List EndId)
 ports_tested ends = if is_port_list ends then Ok ends else Err BadLine
 
 -- `-`, or at most MAX_PORTS different ends joined by single commas
-unfoldable pub ports_in : List ℕ → LogRead (List EndId)
-ports_in list = some_or BadLine (ends_of MAX_END list) >>= ports_tested
+unfoldable pub ports_in_logs : List ℕ → LogRead (List EndId)
+ports_in_logs list = some_or BadLine (ends_listed MAX_END list) >>= ports_tested
 
 abbrev pub begins_with_space : List ℕ → Bool
 begins_with_space [] = false
@@ -86,14 +86,14 @@ body_in v text = if begins_with_space text then Err BadLine else body_answer v (
 -- a LIST and a BODY
 unfoldable pub message_with : LogVersion → List ℕ → List ℕ → LogRead (List EndId × List ℕ)
 message_with v list text = do
-  ports ← ports_in list
+  ports ← ports_in_logs list
   body ← body_in v text
   Ok (ports, body)
 
 -- one word or two, and more
 abbrev pub content_cut : LogVersion → List ℕ → Option (List ℕ × List ℕ) → LogRead Content
 content_cut v text None = if has_notices v && bytes_eq text (codes "notice") then Ok Notice else Err BadLine
-content_cut v text (Some parts) = message_with v parts.0 parts.1 >>= λ m. Ok (Message m)
+content_cut v text (Some parts) = message_with v parts.0 parts.1 >>= λ m. Ok (Payload m)
 
 -- `LIST BODY`, or `notice` where the version has notices
 unfoldable pub content_in : LogVersion → List ℕ → LogRead Content
@@ -127,9 +127,9 @@ log_line_with v name rest =
     else (if bytes_eq name (codes "closed") then end_in rest >>= (λ e. Ok (line.Entry (Closed e)))
     else Err BadLine))))
 
-unfoldable pub text_in : LogVersion → List ℕ → LogRead LogLine
-text_in v text = parts_in 32 text >>= λ parts. log_line_with v parts.0 parts.1
+unfoldable pub text_in_logs : LogVersion → List ℕ → LogRead LogLine
+text_in_logs v text = parts_in 32 text >>= λ parts. log_line_with v parts.0 parts.1
 
 -- the log line that the bytes of a text line are, in logs of the version
 unfoldable pub log_line_of : LogVersion → List ℕ → LogRead LogLine
-log_line_of v bytes = if is_utf8 bytes then text_in v bytes else Err BadLine
+log_line_of v bytes = if is_utf8 bytes then text_in_logs v bytes else Err BadLine

@@ -12,7 +12,7 @@ header_of First = codes "hublog 1"
 header_of Second = codes "hublog 2"
 header_of Third = LOG_HEADER.now
 
--- the version of which this is the first line
+-- the version whose logs begin with this line
 abbrev pub version_of : List ℕ → Option LogVersion
 version_of header =
     if bytes_eq header (header_of First) then Some First

@@ -8,8 +8,8 @@ use Rattle.hub_trace.specs.declared.log_line.LogLine.TheVariants as line
 use Rattle.hub_trace.specs.declared.log_version.LogVersion.{LogVersion}
 use Rattle.hub_trace.specs.LogVersion.{header_of, version_of}
 use Rattle.hub_trace.specs.declared.read.TheConstants.{LOGS_END}
-use Rattle.hub_trace.specs.declared.log_error.LogError.{LogError}
-use Rattle.hub_trace.specs.declared.log_error.LogError.TheVariants as error
+use Rattle.hub_trace.specs.declared.error.LogError.{LogError}
+use Rattle.hub_trace.specs.declared.error.LogError.TheVariants as error
 use Rattle.hub_trace.specs.Accepted.{AgentLog}
 use Rattle.hub_trace.specs.Closings.{closes_again, is_closed_in}
 use Rattle.hub_trace.specs.LogLine.{LogRead, log_line_of}
@@ -25,25 +25,25 @@ with_entry (log ∷ []) e = (log.0, log.1 ++ e ∷ []) ∷ []
 with_entry (log ∷ next ∷ logs) e = log ∷ with_entry (next ∷ logs) e
 
 -- the logs with what a log line says; an entry belongs to the newest log, and no end is closed twice
-abbrev pub with_line : List AgentLog → LogLine → LogRead (List AgentLog)
-with_line logs (line.Agent a) = Ok (logs ++ (a, []) ∷ [])
-with_line [] (line.Entry e) = Err error.BadLine
-with_line (log ∷ logs) (line.Entry e) = if closes_again (log ∷ logs) e then Err error.BadLine else Ok (with_entry (log ∷ logs) e)
+abbrev pub with_log_line : List AgentLog → LogLine → LogRead (List AgentLog)
+with_log_line logs (line.Agent a) = Ok (logs ++ (a, []) ∷ [])
+with_log_line [] (line.Entry e) = Err error.BadLine
+with_log_line (log ∷ logs) (line.Entry e) = if closes_again (log ∷ logs) e then Err error.BadLine else Ok (with_entry (log ∷ logs) e)
 
 -- the logs, which are of the version, with what the bytes of a text line say
 abbrev pub line_added : LogVersion → List AgentLog → List ℕ → LogRead (List AgentLog)
-line_added v logs bytes = log_line_of v bytes >>= with_line logs
+line_added v logs bytes = log_line_of v bytes >>= with_log_line logs
 
 -- what is read after the text line of that number
-abbrev pub after_line : ℕ → LogRead (List AgentLog) → (List AgentLog → LogsRead) → LogsRead
-after_line n (Err e) more = Err (n, e)
-after_line n (Ok logs) more = more logs
+abbrev pub after_log_line : ℕ → LogRead (List AgentLog) → (List AgentLog → LogsRead) → LogsRead
+after_log_line n (Err e) more = Err (n, e)
+after_log_line n (Ok logs) more = more logs
 
--- the logs with what the text lines say, of which the first has the number n, up to a line `deliveries`
+-- the logs with what the text lines from number n on say, up to a line `deliveries`
 unfoldable pub logs_from : LogVersion → ℕ → List AgentLog → List (List ℕ) → LogsRead
 logs_from v n logs [] = Ok logs
 logs_from v n logs (l ∷ lines) =
-    if bytes_eq l LOGS_END.now then Ok logs else after_line n (line_added v logs l) (λ longer. logs_from v (n + 1) longer lines)
+    if bytes_eq l LOGS_END.now then Ok logs else after_log_line n (line_added v logs l) (λ longer. logs_from v (n + 1) longer lines)
 
 -- the logs of the version that the first text line names
 abbrev pub logs_below : Option LogVersion → List (List ℕ) → LogsRead

@@ -28,12 +28,12 @@ line_reads None = false
 line_reads (Some parts) = is_delivery parts.0 && delivers_message parts.1
 
 -- whether memory may run out while the bytes of a log line are read
-abbrev pub reads_memory : List ℕ → Bool
-reads_memory bytes = line_reads (cut 32 bytes)
+abbrev pub log_reads_memory : List ℕ → Bool
+log_reads_memory bytes = line_reads (cut 32 bytes)
 
 -- a log line whose reading takes memory, or by which the logs grow
-abbrev pub TakesMemory : LogVersion → List ℕ → Type 0
-TakesMemory v bytes = (reads_memory bytes ≡ true) ⊎ IsOk (log_line_of v bytes)
+abbrev pub ReadingTakesMemory : LogVersion → List ℕ → Type 0
+ReadingTakesMemory v bytes = (log_reads_memory bytes ≡ true) ⊎ IsOk (log_line_of v bytes)
 
 -- the text line of that number, below the header, takes memory
 pub record TakesMemoryAt (bytes : List ℕ) (n : ℕ) : Type 0 where
@@ -44,4 +44,4 @@ pub record TakesMemoryAt (bytes : List ℕ) (n : ℕ) : Type 0 where
   pub behind : List (List ℕ)
   pub lines : text_lines_of bytes ≡ before ++ line ∷ behind
   pub number : n ≡ length before + 1
-  pub takes : TakesMemory version line
+  pub takes : ReadingTakesMemory version line

@@ -5,12 +5,12 @@ use Rattle.std.specs.List.{flat_map}
 use Rattle.hub_envelope.specs.Naming.{posted_text}
 use Rattle.hub_text.specs.EndList.{ends_text}
 use Rattle.hub_trace.specs.declared.content.Content.{Content}
-use Rattle.hub_trace.specs.declared.content.Content.TheVariants.{Message, Notice}
+use Rattle.hub_trace.specs.declared.content.Content.TheVariants.{Payload, Notice}
 use Rattle.hub_trace.specs.declared.log_entry.Delivery.{Delivery}
 use Rattle.hub_trace.specs.declared.log_entry.LogEntry.{LogEntry}
 use Rattle.hub_trace.specs.declared.log_entry.LogEntry.TheVariants.{Put, Got, Adopted, Closed}
-use Rattle.hub_trace.specs.declared.log_error.LogError.{LogError}
-use Rattle.hub_trace.specs.declared.log_error.LogError.TheVariants.{BadHeader, BadLine, OutOfMemory}
+use Rattle.hub_trace.specs.declared.error.LogError.{LogError}
+use Rattle.hub_trace.specs.declared.error.LogError.TheVariants.{BadHeader, BadLine, OutOfMemory}
 use Rattle.hub_trace.specs.declared.verdict.FaultKind.{FaultKind}
 use Rattle.hub_trace.specs.declared.verdict.FaultKind.TheVariants.{AfterClose, AfterNotice, Changed, Twice, Gap, Foreign}
 use Rattle.hub_trace.specs.declared.verdict.Verdict.{Verdict}
@@ -20,7 +20,7 @@ use Rattle.hub_trace.specs.Accepted.{AgentLog}
 
 -- `LIST BODY`, or `notice`
 abbrev pub content_text : Content → List ℕ
-content_text (Message m) = ends_text m.0 ++ codes " " ++ m.1
+content_text (Payload m) = ends_text m.0 ++ codes " " ++ m.1
 content_text Notice = codes "notice"
 
 -- `E L EP:N LIST BODY`, or `E L EP:N notice`

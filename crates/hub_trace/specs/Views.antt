@@ -5,14 +5,14 @@ use Rattle.hub_envelope.specs.declared.posted.Posted.{Posted}
 use Rattle.hub_trace.specs.declared.log_entry.Delivery.{Delivery}
 use Rattle.hub_trace.specs.declared.accepted.AcceptedEnvelope.{AcceptedEnvelope}
 use Rattle.hub_trace.specs.declared.received.Happening.{Happening}
-use Rattle.hub_trace.specs.declared.received.Arrival.{Arrival}
+use Rattle.hub_trace.specs.declared.received.Incoming.{Incoming}
 use Rattle.hub_trace.specs.Accepted.{is_of}
 use Rattle.hub_trace.specs.Got.{EndEvent, Receipt}
 
 abbrev pub delivery_of : AcceptedEnvelope → Delivery
 delivery_of a = record { posted = a.posted; content = a.content.now }
 
-abbrev pub receipt_of : Arrival → Receipt
+abbrev pub receipt_of : Incoming → Receipt
 receipt_of a = record { delivery = record { posted = a.posted; content = a.content.now }; late = a.late }
 
 -- nothing is of an end below that of what stands before it
@@ -39,8 +39,8 @@ abbrev pub accepted_in : List AcceptedEnvelope → ℕ → ℕ → List Delivery
 accepted_in xs end line = map delivery_of (filter (λ a. is_of end line a.posted) xs)
 
 -- what was got of a line, among these
-abbrev pub got_in : List Arrival → ℕ → ℕ → List Receipt
-got_in xs end line = map receipt_of (filter (λ a. is_of end line a.posted) xs)
+abbrev pub got_among : List Incoming → ℕ → ℕ → List Receipt
+got_among xs end line = map receipt_of (filter (λ a. is_of end line a.posted) xs)
 
 -- an envelope that was got was got at its own end
 abbrev pub IsOwn : Happening → Type 0
@@ -56,5 +56,5 @@ abbrev pub end_events_in : List Happening → ℕ → List EndEvent
 end_events_in xs end = map end_event_of (filter (λ h. h.end.0 == end) xs)
 
 -- what was got at an end, among these
-abbrev pub receipts_in : List Arrival → ℕ → List Receipt
+abbrev pub receipts_in : List Incoming → ℕ → List Receipt
 receipts_in xs end = map receipt_of (filter (λ a. a.posted.end.0 == end) xs)

@@ -7,8 +7,7 @@ ghost use Rattle.hub_trace.specs.Views.{RisesByLine, accepted_in, delivery_of};
 
 use crate::content::Content;
 use crate::log::Log;
-use crate::log_entry::LogEntry;
-use crate::naming::{is_of_earlier_line, is_of_later_line};
+use crate::log_entry::{LogEntry, is_of_earlier_line, is_of_later_line};
 use hub_envelope::{EndId, LineId, OutOfMemory, Posted};
 use std::alloc::Global;
 

@@ -6,23 +6,23 @@ ghost use Rattle.std.specs.List.{list_any};
 ghost use Rattle.hub_trace.specs.Accepted.{accepted};
 ghost use Rattle.hub_trace.specs.Got.{got};
 ghost use Rattle.hub_trace.specs.Clean.{IsClean, IsCleanLine};
-ghost use Rattle.hub_trace.specs.Fault.{IsFirstFault, IsRight, has_name, has_notice, is_named};
+ghost use Rattle.hub_trace.specs.Fault.{IsFirstFault, IsRight, is_name_of, has_notice, names_delivery};
 ghost use Rattle.hub_trace.specs.Fault.{kind_at};
 ghost use Rattle.hub_trace.specs.Verdict.{IsVerdict};
 ghost use Rattle.hub_trace.specs.declared.verdict.Verdict.TheVariants.{Clean};
-ghost use Rattle.hub_trace.specs.Views.{RisesByLine, accepted_in, delivery_of, got_in, receipt_of};
+ghost use Rattle.hub_trace.specs.Views.{RisesByLine, accepted_in, delivery_of, got_among, receipt_of};
 
 use crate::accepted::{AcceptedEnvelope, accepted_in_order, accepted_of};
 use crate::log::Log;
-use crate::naming::has_name_of;
-use crate::received::{Arrival, arrivals_in_order, front_of_line};
+use crate::log_entry::has_name_of;
+use crate::received::{Incoming, arrivals_in_order, front_of_line};
 use crate::verdict::{FaultKind, Verdict};
 use hub_envelope::{OutOfMemory, Posted};
 use std::alloc::Global;
 
 /// Reads the logs of one run together, and says whether what was got of each line is the beginning
 /// of what was accepted there, with nothing got at an end after it was closed and nothing got of a
-/// line after a notice of it. Else it tells the fault of the least end, then line, then place.
+/// line after a notice of it. Else it names the fault of the least end, then line, then place.
 pub fn check(alloc: Global, logs: &[Log]) -> Result<Verdict, OutOfMemory>
     ensures clean { IfOk result (λ verdict. (verdict ≡ Clean) ↔ IsClean logs.now) }
     ensures verdict { IfOk result
@@ -34,10 +34,10 @@ pub fn check(alloc: Global, logs: &[Log]) -> Result<Verdict, OutOfMemory>
 }
 
 /// The fault of the least end, then line, then place.
-fn first_fault(accepted: &[AcceptedEnvelope<'_>], arrivals: &[Arrival<'_>]) -> Verdict
+fn first_fault(accepted: &[AcceptedEnvelope<'_>], arrivals: &[Incoming<'_>]) -> Verdict
     requires accepted { RisesByLine (λ a. a.posted) accepted.now }
     requires arrivals { RisesByLine (λ a. a.posted) arrivals.now }
-    ensures { IsVerdict (accepted_in accepted.now) (got_in arrivals.now) result }
+    ensures { IsVerdict (accepted_in accepted.now) (got_among arrivals.now) result }
 {
     let mut rest = arrivals;
     while let Some(first) = rest.first() {
@@ -61,7 +61,7 @@ fn first_fault(accepted: &[AcceptedEnvelope<'_>], arrivals: &[Arrival<'_>]) -> V
 /// The first fault in what was got of one line.
 fn fault_of_line(
     accepted: &[AcceptedEnvelope<'_>],
-    got: &[Arrival<'_>],
+    got: &[Incoming<'_>],
 ) -> Option<(usize, FaultKind)>
     ensures { MatchOption result
         (IsCleanLine (map delivery_of accepted.now) (map receipt_of got.now))
@@ -86,7 +86,7 @@ fn is_right(
     accepted: &[AcceptedEnvelope<'_>],
     noticed: bool,
     place: usize,
-    arrival: &Arrival<'_>,
+    arrival: &Incoming<'_>,
 ) -> bool
     ensures { IsTrue result
         ↔ IsRight (map delivery_of accepted.now) noticed place (receipt_of arrival.now) }
@@ -105,9 +105,9 @@ fn is_right(
 /// What is wrong with an arrival that isn't right. The earlier ones of its line are all before it.
 fn kind_of(
     accepted: &[AcceptedEnvelope<'_>],
-    earlier: &[Arrival<'_>],
+    earlier: &[Incoming<'_>],
     noticed: bool,
-    arrival: &Arrival<'_>,
+    arrival: &Incoming<'_>,
 ) -> FaultKind
     requires { noticed ≡ has_notice (map receipt_of earlier.now) }
     ensures { result ≡ kind_at (map delivery_of accepted.now) (map receipt_of earlier.now)
@@ -133,7 +133,7 @@ fn kind_of(
 
 /// Whether the accepted envelope at the place has this name.
 fn is_named_at(accepted: &[AcceptedEnvelope<'_>], place: usize, posted: &Posted) -> bool
-    ensures { result ≡ is_named (slice_get (map delivery_of accepted.now) place) posted.now }
+    ensures { result ≡ names_delivery (slice_get (map delivery_of accepted.now) place) posted.now }
 {
     match accepted.get(place) {
         Some(expected) => has_name_of(&expected.posted, posted),
@@ -144,15 +144,15 @@ fn is_named_at(accepted: &[AcceptedEnvelope<'_>], place: usize, posted: &Posted)
 /// Whether an accepted envelope has this name.
 fn is_among_accepted(accepted: &[AcceptedEnvelope<'_>], posted: &Posted) -> bool
     ensures { result
-        ≡ list_any (λ d. has_name d.posted posted.now) (map delivery_of accepted.now) }
+        ≡ list_any (λ d. is_name_of d.posted posted.now) (map delivery_of accepted.now) }
 {
     accepted.iter().any(|a| has_name_of(&a.posted, posted))
 }
 
 /// Whether an envelope that was got has this name.
-fn is_among_got(got: &[Arrival<'_>], posted: &Posted) -> bool
+fn is_among_got(got: &[Incoming<'_>], posted: &Posted) -> bool
     ensures { result
-        ≡ list_any (λ r. has_name r.delivery.posted posted.now) (map receipt_of got.now) }
+        ≡ list_any (λ r. is_name_of r.delivery.posted posted.now) (map receipt_of got.now) }
 {
     got.iter().any(|a| has_name_of(&a.posted, posted))
 }

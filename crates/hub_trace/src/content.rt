@@ -2,7 +2,7 @@ ghost use Rattle.std.specs.Prelude.{◌≡◌, ◌↔◌, IsTrue, Some};
 ghost use Rattle.hub_trace.specs.Content.{is_notice};
 ghost use Rattle.hub_trace.specs.Text.{content_text};
 
-use crate::message::Message;
+use crate::message::Payload;
 use hub_text::EndListText;
 use std::fmt;
 
@@ -10,7 +10,7 @@ use std::fmt;
 #[derive(Debug, Drop)]
 pub enum Content {
     /// A post.
-    Message(Message),
+    Payload(Payload),
     /// The notice that nothing more comes by the line. It has no ports and no body.
     Notice,
 }
@@ -21,7 +21,7 @@ impl Content {
         ensures { result ≡ is_notice self.now }
     {
         match self {
-            Content::Message(_) => false,
+            Content::Payload(_) => false,
             Content::Notice => true,
         }
     }
@@ -31,7 +31,7 @@ impl Content {
         ensures { IsTrue result ↔ (self.now ≡ other.now) }
     {
         match (self, other) {
-            (Content::Message(message), Content::Message(expected)) => message.is_same(expected),
+            (Content::Payload(message), Content::Payload(expected)) => message.is_same(expected),
             (Content::Notice, Content::Notice) => true,
             _ => false,
         }
@@ -44,7 +44,7 @@ impl fmt::Display for Content {
 
     fn fmt<W: fmt::Write>(&self, f: &mut fmt::Formatter<W>) -> fmt::Result {
         match self {
-            Content::Message(message) => {
+            Content::Payload(message) => {
                 let ports = EndListText(message.ports());
                 let body = message.body();
                 write!(f, "{ports} {body}")

@@ -1,19 +1,47 @@
 //! What was delivered of each line.
 
-ghost use Rattle.std.specs.Prelude.{◌≡◌, ◌≢◌, ℕ, [], IfOk, map};
+ghost use Rattle.std.specs.Prelude.{◌≡◌, ◌≢◌, ℕ, [], IfOk, map, Some};
 ghost use Rattle.std.specs.List.{All, AllPairs};
 ghost use Rattle.hub_trace.specs.Deliveries.{AreDeliveries, IsEarlierLine, names_of, names_under};
-ghost use Rattle.hub_trace.specs.Views.{RisesByLine, got_in};
+ghost use Rattle.hub_trace.specs.Deliveries.{delivered_line_text, DeliveriesAreOne};
+ghost use Rattle.hub_trace.specs.Views.{RisesByLine, got_among};
 
-use crate::delivered_line::DeliveredLine;
 use crate::log::Log;
-use crate::received::{Arrival, arrivals_in_order, front_of_line};
-use hub_envelope::{OutOfMemory, Posted};
+use crate::received::{Incoming, arrivals_in_order, front_of_line};
+use hub_envelope::{EndId, LineId, OutOfMemory, Posted};
 use std::alloc::Global;
+use std::fmt;
 
-/// Reads the logs of one run together, and tells what was got of each line of each end. A line of
-/// which nothing was got stands nowhere; a notice that was taken counts as got. The lines stand by
-/// ends, and within an end by their numbers, both rising.
+/// What was got of one line of an end.
+#[derive(Debug, Drop)]
+pub struct DeliveredLine {
+    pub end: EndId,
+    pub line: LineId,
+    /// The names of the envelopes and notices that were got, in the order in which they were got:
+    /// by the epochs at which the agents' logs had adopted the end, then in the order of the logs.
+    pub names: Vec<Posted>,
+}
+
+/// `end E line L EP:N EP:N ..`: the end, the line number, and the epoch and number of each name.
+impl fmt::Display for DeliveredLine {
+    ghost output = { λ d. Some (delivered_line_text d) };
+
+    fn fmt<W: fmt::Write>(&self, f: &mut fmt::Formatter<W>) -> fmt::Result {
+        let end = self.end.0;
+        let line = self.line.0;
+        write!(f, "end {end} line {line}")?;
+        for posted in &self.names {
+            let epoch = posted.epoch;
+            let number = posted.number;
+            write!(f, " {epoch}:{number}")?;
+        }
+        Ok(())
+    }
+}
+
+/// Reads the logs of one run together, and lists what was got of each line of each end. A line that
+/// delivered nothing isn't listed; a notice that was taken counts as got. The lines are in the
+/// order of their ends and, within an end, of their numbers.
 ///
 /// It judges nothing: what was got twice stands twice, and what was got after the end was closed
 /// or after a notice stands too. For n entries it takes a time in the order of n log n.
@@ -27,13 +55,13 @@ pub fn deliveries(alloc: Global, logs: &[Log]) -> Result<Vec<DeliveredLine>, Out
 /// The lines of the arrivals.
 fn delivered_lines(
     alloc: Global,
-    arrivals: &[Arrival<'_>],
+    arrivals: &[Incoming<'_>],
 ) -> Result<Vec<DeliveredLine>, OutOfMemory>
     requires { RisesByLine (λ a. a.posted) arrivals.now }
     ensures rising { IfOk result (λ lines. AllPairs IsEarlierLine lines.items) }
     ensures none_empty { IfOk result (λ lines. All (λ d. d.names.items ≢ []) lines.items) }
     ensures names { IfOk result (λ lines. (end line : ℕ) →
-        names_under end line lines.items ≡ names_of (got_in arrivals.now end line)) }
+        names_under end line lines.items ≡ names_of (got_among arrivals.now end line)) }
 {
     let mut lines = Vec::new(alloc);
     let mut rest = arrivals;
@@ -49,8 +77,14 @@ fn delivered_lines(
 }
 
 /// The names of the arrivals.
-fn names_of(alloc: Global, arrivals: &[Arrival<'_>]) -> Result<Vec<Posted>, OutOfMemory>
+fn names_of(alloc: Global, arrivals: &[Incoming<'_>]) -> Result<Vec<Posted>, OutOfMemory>
     ensures { IfOk result (λ names. names.items ≡ map (λ a. a.posted) arrivals.now) }
 {
     Ok(arrivals.iter().map(|a| a.posted).collect(alloc)?)
 }
+
+/// The law of `deliveries`: of the same logs it lists the same lines, with the same names in the
+/// same order. The function does nothing; the law is its contract.
+pub fn delivery_laws()
+    ensures { DeliveriesAreOne }
+{}

@@ -10,7 +10,7 @@ ghost use Rattle.hub_trace.specs.Text.{log_text};
 
 use crate::content::Content;
 use crate::log_entry::{Delivery, LogEntry};
-use crate::message::Message;
+use crate::message::Payload;
 use hub_envelope::{AgentId, Body, EndId, OutOfMemory, Posted};
 use std::alloc::Global;
 use std::fmt;
@@ -103,7 +103,7 @@ impl Log {
             (self.new ≡ log_with self.old (Put (message_at posted ports.now body.now))) }
         ensures err { OnErr result (self.new ≡ self.old) }
     {
-        let content = Content::Message(Message::copy_of(alloc, ports, body)?);
+        let content = Content::Payload(Payload::copy_of(alloc, ports, body)?);
         self.append(LogEntry::Put(Delivery { posted, content }))
     }
 
@@ -131,7 +131,7 @@ impl Log {
             (self.new ≡ log_with self.old (Got (message_at posted ports.now body.now))) }
         ensures err { OnErr result (self.new ≡ self.old) }
     {
-        let content = Content::Message(Message::copy_of(alloc, ports, body)?);
+        let content = Content::Payload(Payload::copy_of(alloc, ports, body)?);
         self.append(LogEntry::Got(Delivery { posted, content }))
     }
 

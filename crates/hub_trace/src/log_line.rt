@@ -8,19 +8,18 @@ ghost use Rattle.hub_trace.specs.LogVersion.{max_body, max_line};
 ghost use Rattle.hub_trace.specs.Limits.{IsContentWithin, IsDeliveryWithin, IsPostedWithin};
 ghost use Rattle.hub_trace.specs.Limits.{IsLogLineWithin, IsMessageWithin, IsPortList};
 ghost use Rattle.hub_trace.specs.LogLine.{adoption_in, agent_in, body_in, content_in, delivery_in};
-ghost use Rattle.hub_trace.specs.LogLine.{end_in, epoch_in, posted_in, line_in, log_line_of};
-ghost use Rattle.hub_trace.specs.LogLine.{log_line_with, message_with, number_in, parts_in};
-ghost use Rattle.hub_trace.specs.LogLine.{ports_in, text_in};
+ghost use Rattle.hub_trace.specs.LogLine.{end_in, epoch_in, posted_in, line_in_logs, log_line_of};
+ghost use Rattle.hub_trace.specs.LogLine.{log_line_with, message_with, number_in_logs, parts_in};
+ghost use Rattle.hub_trace.specs.LogLine.{ports_in_logs, text_in_logs};
 ghost use Rattle.hub_trace.specs.ReadMemory.{delivers_message, has_message, is_delivery};
-ghost use Rattle.hub_trace.specs.ReadMemory.{reads_memory};
+ghost use Rattle.hub_trace.specs.ReadMemory.{log_reads_memory};
 
 use crate::content::Content;
-use crate::limits::{MAX_AGENT, MAX_END, MAX_EPOCH, MAX_NUMBER};
+use crate::error::LogError;
+use crate::limits::{MAX_AGENT, MAX_END, MAX_EPOCH, MAX_NUMBER, is_port_list};
 use crate::log_entry::{Delivery, LogEntry};
-use crate::log_error::LogError;
 use crate::log_version::LogVersion;
-use crate::message::Message;
-use crate::port_list::is_port_list;
+use crate::message::Payload;
 use hub_envelope::{AgentId, Body, BodyError, EndId, Items, LineId, Posted};
 use hub_text::{cut_at, next_word, number_of, read_ends};
 use std::alloc::Global;
@@ -44,20 +43,20 @@ pub(crate) fn read_log_line(
     ensures says { IsReadAs LogError.OutOfMemory (λ x. x) result (log_line_of version bytes.now) }
     ensures within { IfOk result (λ l. IsLogLineWithin version l) }
     ensures memory { IfErr result (λ e. e ≡ LogError.OutOfMemory
-        → reads_memory bytes.now ≡ true) }
+        → log_reads_memory bytes.now ≡ true) }
 {
     let Ok(text) = str::from_utf8(bytes) else {
         return Err(LogError::BadLine);
     };
-    text_in(alloc, version, text)
+    text_in_logs(alloc, version, text)
 }
 
-#[tactic(auto, unfolding(crate::specs::LogLine::text_in))]
-fn text_in(alloc: Global, version: LogVersion, text: &str) -> Result<LogLine, LogError>
-    ensures says { IsReadAs LogError.OutOfMemory (λ x. x) result (text_in version text.now) }
+#[tactic(auto, unfolding(crate::specs::LogLine::text_in_logs))]
+fn text_in_logs(alloc: Global, version: LogVersion, text: &str) -> Result<LogLine, LogError>
+    ensures says { IsReadAs LogError.OutOfMemory (λ x. x) result (text_in_logs version text.now) }
     ensures within { IfOk result (λ l. IsLogLineWithin version l) }
     ensures memory { IfErr result (λ e. e ≡ LogError.OutOfMemory
-        → reads_memory text.now ≡ true) }
+        → log_reads_memory text.now ≡ true) }
 {
     let (name, rest) = first_word(text)?;
     log_line_with(alloc, version, name, rest)
@@ -131,9 +130,9 @@ fn posted_in(version: LogVersion, end: &str, line: &str, name: &str) -> Result<P
     let (epoch, number) = name_parts(name)?;
     Ok(Posted {
         end: end_in(end)?,
-        line: line_in(version, line)?,
+        line: line_in_logs(version, line)?,
         epoch: epoch_in(epoch)?,
-        number: number_in(number, MAX_NUMBER)?,
+        number: number_in_logs(number, MAX_NUMBER)?,
     })
 }
 
@@ -148,7 +147,7 @@ fn content_in(alloc: Global, version: LogVersion, text: &str) -> Result<Content,
     match next_word(text) {
         Some((list, body)) => {
             let message = message_with(alloc, version, list, body)?;
-            Ok(Content::Message(message))
+            Ok(Content::Payload(message))
         }
         None if version.has_notices() && text == "notice" => Ok(Content::Notice),
         None => Err(LogError::BadLine),
@@ -161,14 +160,14 @@ fn message_with(
     version: LogVersion,
     list: &str,
     body: &str,
-) -> Result<Message, LogError>
+) -> Result<Payload, LogError>
     ensures says { IsReadAs LogError.OutOfMemory (λ x. x) result
         (message_with version list.now body.now) }
     ensures within { IfOk result (λ m. IsMessageWithin version m) }
 {
-    let ports = ports_in(alloc, list)?;
+    let ports = ports_in_logs(alloc, list)?;
     let body = body_in(alloc, version, body)?;
-    Ok(Message::of(ports.into_list(), body))
+    Ok(Payload::of(ports.into_list(), body))
 }
 
 /// The text up to the first space, and what comes after that.
@@ -196,8 +195,8 @@ fn name_parts(name: &str) -> Result<(&str, &str), LogError>
     }
 }
 
-fn number_in(word: &str, max: u64) -> Result<u64, LogError>
-    ensures says { IsReadAs LogError.OutOfMemory (λ x. x) result (number_in max word.now) }
+fn number_in_logs(word: &str, max: u64) -> Result<u64, LogError>
+    ensures says { IsReadAs LogError.OutOfMemory (λ x. x) result (number_in_logs max word.now) }
     ensures within { IfOk result (λ n. n ≤ max) }
     ensures memory { IfErr result (λ e. e ≢ LogError.OutOfMemory) }
 {
@@ -212,7 +211,7 @@ fn agent_in(word: &str) -> Result<AgentId, LogError>
     ensures within { IfOk result (λ a. a.0 ≤ MAX_AGENT) }
     ensures memory { IfErr result (λ e. e ≢ LogError.OutOfMemory) }
 {
-    Ok(AgentId(number_in(word, MAX_AGENT)? as u8))
+    Ok(AgentId(number_in_logs(word, MAX_AGENT)? as u8))
 }
 
 fn end_in(word: &str) -> Result<EndId, LogError>
@@ -220,15 +219,15 @@ fn end_in(word: &str) -> Result<EndId, LogError>
     ensures within { IfOk result (λ e. e.0 ≤ MAX_END) }
     ensures memory { IfErr result (λ e. e ≢ LogError.OutOfMemory) }
 {
-    Ok(EndId(number_in(word, MAX_END)? as u32))
+    Ok(EndId(number_in_logs(word, MAX_END)? as u32))
 }
 
-fn line_in(version: LogVersion, word: &str) -> Result<LineId, LogError>
-    ensures says { IsReadAs LogError.OutOfMemory (λ x. x) result (line_in version word.now) }
+fn line_in_logs(version: LogVersion, word: &str) -> Result<LineId, LogError>
+    ensures says { IsReadAs LogError.OutOfMemory (λ x. x) result (line_in_logs version word.now) }
     ensures within { IfOk result (λ l. l.0 ≤ max_line version) }
     ensures memory { IfErr result (λ e. e ≢ LogError.OutOfMemory) }
 {
-    Ok(LineId(number_in(word, version.max_line())? as u8))
+    Ok(LineId(number_in_logs(word, version.max_line())? as u8))
 }
 
 fn epoch_in(word: &str) -> Result<u32, LogError>
@@ -236,13 +235,13 @@ fn epoch_in(word: &str) -> Result<u32, LogError>
     ensures within { IfOk result (λ n. n ≤ MAX_EPOCH) }
     ensures memory { IfErr result (λ e. e ≢ LogError.OutOfMemory) }
 {
-    Ok(number_in(word, MAX_EPOCH)? as u32)
+    Ok(number_in_logs(word, MAX_EPOCH)? as u32)
 }
 
 /// `-`, or at most `MAX_PORTS` different ends joined by single commas.
-#[tactic(auto, unfolding(crate::specs::LogLine::ports_in))]
-fn ports_in(alloc: Global, list: &str) -> Result<Items<EndId>, LogError>
-    ensures says { IsReadAs LogError.OutOfMemory (λ x. x) result (ports_in list.now) }
+#[tactic(auto, unfolding(crate::specs::LogLine::ports_in_logs))]
+fn ports_in_logs(alloc: Global, list: &str) -> Result<Items<EndId>, LogError>
+    ensures says { IsReadAs LogError.OutOfMemory (λ x. x) result (ports_in_logs list.now) }
     ensures within { IfOk result (λ ports. IsPortList ports) }
 {
     match read_ends(alloc, list, MAX_END as u32)? {

@@ -8,12 +8,12 @@ use std::marker::Model;
 /// What an envelope carries: the ends of the ports that travel with it, in list order, and its
 /// body.
 #[derive(Debug, Drop)]
-pub struct Message {
+pub struct Payload {
     ports: Vec<EndId>,
     body: Body,
 }
 
-impl Model for Message {
+impl Model for Payload {
     ghost use Rattle.std.specs.Prelude.{List, ℕ};
     ghost use Rattle.hub_envelope.specs.declared.ids.EndId.{EndId};
 
@@ -22,26 +22,26 @@ impl Model for Message {
     ghost view = { λ m. (m.ports.items, m.body) };
 }
 
-impl Message {
+impl Payload {
     /// A copy of the ports and the body.
     pub(crate) fn copy_of(
         alloc: Global,
         ports: &[EndId],
         body: &Body,
-    ) -> Result<Message, OutOfMemory>
+    ) -> Result<Payload, OutOfMemory>
         ensures copy { IfOk result (λ message. message ≡ (ports.now, body.now)) }
         ensures body { IfOk result (λ message. IsBodyText message.1) }
     {
         let ports = Vec::from_slice(alloc, ports)?;
         let body = body.clone()?;
-        Ok(Message { ports, body })
+        Ok(Payload { ports, body })
     }
 
     /// The message of these ports and this body. It takes no memory.
-    pub(crate) fn of(ports: Vec<EndId>, body: Body) -> Message
+    pub(crate) fn of(ports: Vec<EndId>, body: Body) -> Payload
         ensures { result ≡ (ports.items, body) }
     {
-        Message { ports, body }
+        Payload { ports, body }
     }
 
     /// The ends of the ports, in list order.
@@ -59,7 +59,7 @@ impl Message {
     }
 
     /// Whether both carry the same ports and the same body.
-    pub fn is_same(&self, other: &Message) -> bool
+    pub fn is_same(&self, other: &Payload) -> bool
         ensures { IsTrue result ↔ (self.now ≡ other.now) }
     {
         self.ports() == other.ports() && self.body() == other.body()

@@ -12,13 +12,13 @@ ghost use Rattle.hub_trace.specs.Accepted.{AgentLog};
 ghost use Rattle.hub_trace.specs.Closings.{closes_one};
 ghost use Rattle.hub_trace.specs.Limits.{AreWithin, IsEntryWithin};
 ghost use Rattle.hub_trace.specs.Read.{ComesAt, HasHeader, HasHeaderOf, HasOtherHeader};
-ghost use Rattle.hub_trace.specs.Read.{TellsClosed, line_added, logs_of, with_line};
-ghost use Rattle.hub_trace.specs.ReadMemory.{TakesMemory, TakesMemoryAt};
+ghost use Rattle.hub_trace.specs.Read.{TellsClosed, line_added, logs_of, with_log_line};
+ghost use Rattle.hub_trace.specs.ReadMemory.{ReadingTakesMemory, TakesMemoryAt};
 ghost use Rattle.hub_trace.specs.Text.{file_text};
 
+use crate::error::LogError;
 use crate::log::Log;
 use crate::log_entry::LogEntry;
-use crate::log_error::LogError;
 use crate::log_line::{LogLine, read_log_line};
 use crate::log_version::LogVersion;
 use hub_envelope::OutOfMemory;
@@ -31,7 +31,7 @@ pub const LOGS_END: &str = "deliveries";
 
 /// The logs that the bytes spell, in any of the three versions, up to a text line `deliveries` or
 /// the end. Text lines end at LF; the last LF may be missing. No bytes at all are no logs. An error
-/// comes with the number of its text line, from 1; of several bad ones the first is told. Memory
+/// comes with the number of its text line, from 1; of several bad ones the first counts. Memory
 /// may run out only at an entry with a body, and where the logs grow.
 pub fn read_logs(alloc: Global, bytes: &[u8]) -> Result<Vec<Log>, (usize, LogError)>
     ensures empty { length bytes.now ≡ 0 → IsOkAnd result (λ logs. logs.items ≡ []) }
@@ -91,7 +91,7 @@ fn add_line(
         (line_added version logs.old.items line.now) }
     ensures closed { OnOk result (TellsClosed (contains nat_cmp closed.new) logs.new.items) }
     ensures memory { IfErr result
-        (λ e. e ≡ LogError.OutOfMemory → TakesMemory version line.now) }
+        (λ e. e ≡ LogError.OutOfMemory → ReadingTakesMemory version line.now) }
     ensures within { OnOk result
         (AreWithin version logs.old.items → AreWithin version logs.new.items) }
 {
@@ -113,7 +113,7 @@ fn add_entry(
     requires within { IsEntryWithin Third entry }
     requires closed { TellsClosed (contains nat_cmp closed.old) logs.old.items }
     ensures says { IsReadAs LogError.OutOfMemory (λ _. logs.new.items) result
-        (with_line logs.old.items (line.Entry entry)) }
+        (with_log_line logs.old.items (line.Entry entry)) }
     ensures closed { OnOk result (TellsClosed (contains nat_cmp closed.new) logs.new.items) }
 {
     let Some(log) = logs.last_mut() else {

@@ -4,15 +4,14 @@ ghost use Rattle.std.specs.Prelude.{◌≡◌, ◌<◌, ◌≤◌, ℕ, false, t
 ghost use Rattle.std.specs.Prelude.{IfOk, OnOk, ◌++◌, ◌==◌};
 ghost use Rattle.std.specs.List.{filter, All};
 ghost use Rattle.hub_trace.specs.Accepted.{is_of};
-ghost use Rattle.hub_trace.specs.Got.{all_end_events, end_events, got, joined, receipts};
-ghost use Rattle.hub_trace.specs.declared.received.Arrival.{Arrival};
-ghost use Rattle.hub_trace.specs.Views.{IsOwn, RisesByLine, RisesByEnd, end_events_in, got_in};
+ghost use Rattle.hub_trace.specs.Got.{all_end_events, end_events, got, stretches_joined, receipts};
+ghost use Rattle.hub_trace.specs.declared.received.Incoming.{Incoming};
+ghost use Rattle.hub_trace.specs.Views.{IsOwn, RisesByLine, RisesByEnd, end_events_in, got_among};
 ghost use Rattle.hub_trace.specs.Views.{receipts_in};
 
 use crate::content::Content;
 use crate::log::Log;
-use crate::log_entry::{Delivery, LogEntry};
-use crate::naming::is_of_later_line;
+use crate::log_entry::{Delivery, LogEntry, is_of_later_line};
 use hub_envelope::{EndId, LineId, OutOfMemory, Posted};
 use std::alloc::Global;
 use std::collections::BTreeMap;
@@ -28,7 +27,7 @@ pub(crate) struct Happening<'a> {
 
 /// An envelope or a notice that was got.
 #[derive(Clone, Copy, Debug)]
-pub(crate) struct Arrival<'a> {
+pub(crate) struct Incoming<'a> {
     pub(crate) posted: Posted,
     pub(crate) content: &'a Content,
     /// Whether the end had been closed before.
@@ -40,9 +39,9 @@ pub(crate) struct Arrival<'a> {
 pub(crate) fn arrivals_in_order(
     alloc: Global,
     logs: &[Log],
-) -> Result<Vec<Arrival<'_>>, OutOfMemory>
+) -> Result<Vec<Incoming<'_>>, OutOfMemory>
     ensures lines { IfOk result (λ v. (end line : ℕ) →
-        got_in v.items end line ≡ got logs.now end line) }
+        got_among v.items end line ≡ got logs.now end line) }
     ensures order { IfOk result (λ v. RisesByLine (λ a. a.posted) v.items) }
 {
     let happenings = happenings_in_order(alloc, logs)?;
@@ -55,7 +54,7 @@ pub(crate) fn arrivals_in_order(
 /// order of the logs.
 fn happenings_in_order(alloc: Global, logs: &[Log]) -> Result<Vec<Happening<'_>>, OutOfMemory>
     ensures ends { IfOk result (λ v. (end : ℕ) →
-        end_events_in v.items end ≡ joined logs.now end) }
+        end_events_in v.items end ≡ stretches_joined logs.now end) }
     ensures order { IfOk result (λ v. RisesByEnd v.items) }
     ensures own { IfOk result (λ v. All IsOwn v.items) }
 {
@@ -121,7 +120,7 @@ fn add_happenings<'a>(
 fn arrivals_of<'a>(
     alloc: Global,
     happenings: &[Happening<'a>],
-) -> Result<Vec<Arrival<'a>>, OutOfMemory>
+) -> Result<Vec<Incoming<'a>>, OutOfMemory>
     requires order { RisesByEnd happenings.now }
     requires own { All IsOwn happenings.now }
     ensures { IfOk result (λ v. (end : ℕ) →
@@ -134,7 +133,7 @@ fn arrivals_of<'a>(
             None => closed = Some(happening.end.0),
             Some(delivery) => {
                 let late = closed == Some(happening.end.0);
-                arrivals.push(Arrival {
+                arrivals.push(Incoming {
                     posted: delivery.posted,
                     content: &delivery.content,
                     late,
@@ -147,13 +146,13 @@ fn arrivals_of<'a>(
 
 /// The arrivals at the front that are of this line. The first arrival is.
 pub(crate) fn front_of_line<'s, 'a>(
-    arrivals: &'s [Arrival<'a>],
+    arrivals: &'s [Incoming<'a>],
     end: EndId,
     line: LineId,
-) -> &'s [Arrival<'a>]
+) -> &'s [Incoming<'a>]
     requires order { RisesByLine (λ a. a.posted) arrivals.now }
     requires some { 0 < length arrivals.now }
-    requires first { (d : Arrival) →
+    requires first { (d : Incoming) →
         is_of end.0 line.0 (slice_index_or arrivals.now 0 d).posted ≡ true }
     ensures some { 0 < length result.now }
     ensures within { length result.now ≤ length arrivals.now }

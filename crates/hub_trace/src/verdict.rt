@@ -20,7 +20,7 @@ pub enum Verdict {
     },
 }
 
-/// What is wrong with an envelope that was got. Of several kinds the first that fits is told.
+/// What is wrong with an envelope that was got. Of several kinds that fit, it is the first.
 #[derive(Clone, Copy, Debug, PartialEq, Eq, Drop)]
 pub enum FaultKind {
     /// The end had been closed before.

@@ -1,6 +1,6 @@
 //! A roster of one's own, and the same behind a lock: joins, casts and leaves answer alike over
 //! both.
-use crate::broadcast::parts::{NO_PORTS, is_first, key};
+use crate::broadcast::{NO_PORTS, is_first, key};
 use hub_broadcast::{CastError, CastOutcome, Member, Roster, SharedRoster, cast_in, leave_in};
 use hub_depot::Depot;
 use hub_envelope::{AgentId, EndId};
@@ -27,7 +27,7 @@ fn join<L: Lends<Roster>, R: Wait>(
     joined.ok()
 }
 
-// How many members a cast from the member goes to; a refusal says that it is in no roster.
+/// How many members a cast from the member goes to; a refusal says that it is in no roster.
 fn casts<L: Lends<Roster>, R: Wait>(
     rt: &R,
     alloc: Global,
@@ -59,7 +59,7 @@ fn accepted(outcomes: &[(EndId, CastOutcome)]) -> usize {
         .count()
 }
 
-// Three members; one leaves, and gets nothing from then on.
+/// Three members; one leaves, and gets nothing from then on.
 fn casts_and_leaves<L: Lends<Roster>, R: Wait>(
     rt: &R,
     alloc: Global,

@@ -1,5 +1,5 @@
 //! Joins and casts of which each allocation is refused in turn.
-use crate::broadcast::parts::{NO_PORTS, is_first, try_join};
+use crate::broadcast::{NO_PORTS, is_first, try_join};
 use hub_broadcast::{CastError, CastOutcome, JoinError, Member, Roster};
 use hub_depot::Depot;
 use hub_envelope::EndId;
@@ -9,7 +9,7 @@ use std::alloc::Global;
 use std::sync::Wait;
 use std::test::Fail;
 
-// One more member, by a second call where the first was refused and used no number.
+/// One more member, by a second call where the first was refused and used no number.
 fn join(alloc: Global, roster: &mut Roster, ends: &mut Ends) -> Option<Member> {
     let drawn = ends.drawn;
     match try_join(alloc, roster, ends)? {
@@ -39,7 +39,7 @@ fn join_four(alloc: Global, roster: &mut Roster) -> Option<Vec<Member>> {
     Some(members)
 }
 
-// What the members take is what they were told: the first envelope where it was accepted.
+/// What the members take is what they were told: the first envelope where it was accepted.
 fn are_told<R: Wait>(rt: &R, members: &mut [Member], outcomes: &[(EndId, CastOutcome)]) -> bool {
     for (member, (end, outcome)) in members.iter_mut().zip(outcomes.iter()) {
         let took = take(rt, member);
@@ -64,7 +64,7 @@ fn took_nothing<R: Wait>(rt: &R, members: &mut [Member]) -> bool {
     true
 }
 
-// A cast with three destinations is refused and nothing was posted, or each is told what it takes.
+/// A cast with three destinations is refused and nothing was posted, or each is told what it takes.
 fn casts_to_three<R: Wait>(rt: &R, alloc: Global) -> Option<bool> {
     let yard = Depot::<Onward>::new(alloc);
     let mut roster = Roster::new(alloc);

@@ -1,5 +1,5 @@
 //! Joins with the numbers of two counts of ends.
-use crate::broadcast::parts::{NO_PORTS, try_join};
+use crate::broadcast::{NO_PORTS, try_join};
 use hub_broadcast::{CastOutcome, JoinError, Member, Roster};
 use hub_depot::Depot;
 use hub_envelope::EndId;
@@ -9,7 +9,7 @@ use std::alloc::Global;
 use std::sync::Wait;
 use std::test::Fail;
 
-// Whether a join with the next number of a count is refused for that number, which isn't used.
+/// Whether a join with the next number of a count is refused for that number, which isn't used.
 fn is_refused(alloc: Global, roster: &mut Roster, drawn: u32) -> bool {
     let mut others = Ends { drawn };
     match try_join(alloc, roster, &mut others) {
@@ -18,7 +18,7 @@ fn is_refused(alloc: Global, roster: &mut Roster, drawn: u32) -> bool {
     }
 }
 
-// The one end at which a cast was accepted, where there is no other outcome.
+/// The one end at which a cast was accepted, where there is no other outcome.
 fn only_end<R: Wait>(rt: &R, alloc: Global, roster: &mut Roster, source: &Member) -> Option<u32> {
     let yard = Depot::<Onward>::new(alloc);
     let outcomes = roster
@@ -32,9 +32,9 @@ fn only_end<R: Wait>(rt: &R, alloc: Global, roster: &mut Roster, source: &Member
     }
 }
 
-// Two members have the ends 0 and 1. The numbers up to the last member's are refused, and the
-// roster is as it was: a cast of the first goes to the second alone. A higher number is no other
-// count's, as far as the roster can tell.
+/// Two members have the ends 0 and 1. The numbers up to the last member's are refused, and the
+/// roster is as it was: a cast of the first goes to the second alone. A higher number is no other
+/// count's, as far as the roster can tell.
 fn refuses_other_ends<R: Wait>(rt: &R, alloc: Global) -> Option<bool> {
     let mut roster = Roster::new(alloc);
     let mut ends = Ends::new();

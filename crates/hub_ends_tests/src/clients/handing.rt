@@ -1,5 +1,5 @@
 //! Queues that wait for an agent, where step files can't show them.
-use crate::clients::parts::{client, worker};
+use crate::clients::{client, worker};
 use hub_clients::{Directory, HandError, HandedQueue};
 use hub_depot::Depot;
 use hub_envelope::{AgentId, EndId};
@@ -10,7 +10,7 @@ use std::sync::Wait;
 
 const TO: AgentId = AgentId(1);
 
-// Whether a client's queue of this number is handed on. What has come back is lost.
+/// Whether a client's queue of this number is handed on. What has come back is lost.
 fn hands_client<R: Wait>(
     rt: &R,
     alloc: Global,
@@ -28,7 +28,7 @@ fn hands_client<R: Wait>(
     }
 }
 
-// Whether a worker's queue of this number is handed on.
+/// Whether a worker's queue of this number is handed on.
 fn hands_worker<R: Wait>(rt: &R, alloc: Global, directory: &Directory, drawn: u32) -> bool {
     match worker(rt, alloc, directory, &mut Ends { drawn }) {
         Some(queue) => queue.hand(rt, directory, TO).is_ok(),
@@ -36,7 +36,7 @@ fn hands_worker<R: Wait>(rt: &R, alloc: Global, directory: &Directory, drawn: u3
     }
 }
 
-// Whether a worker's queue of the number 0 waits for the agent.
+/// Whether a worker's queue of the number 0 waits for the agent.
 fn has_worker<R: Wait>(rt: &R, directory: &Directory) -> bool {
     match directory.fetch(rt, EndId(0), TO) {
         Some(handed) => {
@@ -48,7 +48,8 @@ fn has_worker<R: Wait>(rt: &R, directory: &Directory) -> bool {
     }
 }
 
-// Whether a client's queue of a number that waits already comes back, and the one that waits stays.
+/// Whether a client's queue of a number that waits already comes back, and the one that waits
+/// stays.
 fn comes_back<R: Wait>(rt: &R, alloc: Global) -> bool {
     let directory = Directory::new(alloc);
     let is_handed = hands_worker(rt, alloc, &directory, 0);
@@ -63,7 +64,7 @@ fn a_queue_comes_back_where_its_name_is_taken(rt: HostRuntime) {
     assert!(rt; comes_back(&rt, rt.alloc()));
 }
 
-// A line to each of the queues 0 and 1.
+/// A line to each of the queues 0 and 1.
 fn lines<R: Wait>(rt: &R, alloc: Global, directory: &Directory) -> Option<Vec<Poster>> {
     let mut lines = Vec::new(alloc);
     for end in 0..2 {
@@ -72,7 +73,7 @@ fn lines<R: Wait>(rt: &R, alloc: Global, directory: &Directory) -> Option<Vec<Po
     Some(lines)
 }
 
-// Whether a post over each of these lines finds its queue closed.
+/// Whether a post over each of these lines finds its queue closed.
 fn are_closed<R: Wait>(rt: &R, alloc: Global, lines: &mut [Poster]) -> bool {
     let yard = Depot::<Onward>::new(alloc);
     for line in lines {
@@ -86,7 +87,7 @@ fn are_closed<R: Wait>(rt: &R, alloc: Global, lines: &mut [Poster]) -> bool {
     true
 }
 
-// Whether a client's and a worker's queue that wait are closed with the directory.
+/// Whether a client's and a worker's queue that wait are closed with the directory.
 fn closes_what_waits<R: Wait>(rt: &R, alloc: Global) -> bool {
     let directory = Directory::new(alloc);
     let are_handed = matches!(hands_client(rt, alloc, &directory, 0), Some(Ok(())))

@@ -1,7 +1,7 @@
 //! A listing and a map of one's own, and the same behind a lock: the calls of a directory answer
 //! alike over both. What is told of the end is kept in a list.
 use hub_clients::{
-    Directory, DirectoryError, Handed, HandedQueue, Listing, close_all, fetch_from, keep_on,
+    Directory, DirectoryError, Handed, HandedQueue, QueueList, close_all, fetch_from, keep_on,
     open_in,
 };
 use hub_depot::{Depot, Kept};
@@ -12,7 +12,7 @@ use hub_test_parts::bell;
 use std::alloc::Global;
 use std::sync::Wait;
 
-fn line_to<L: Lends<Listing>, R: Wait>(
+fn line_to<L: Lends<QueueList>, R: Wait>(
     rt: &R,
     lender: &mut L,
     end: u32,
@@ -20,8 +20,8 @@ fn line_to<L: Lends<Listing>, R: Wait>(
     lender.lend(rt, |listing| listing.line_to(EndId(end)))
 }
 
-// Whether the next lines of the queue 0 are these, in order. They are lost at once.
-fn lends_these<L: Lends<Listing>, R: Wait>(rt: &R, lender: &mut L, lines: usize) -> bool {
+/// Whether the next lines of the queue 0 are these, in order. They are lost at once.
+fn lends_these<L: Lends<QueueList>, R: Wait>(rt: &R, lender: &mut L, lines: usize) -> bool {
     for line in 0..lines {
         match line_to(rt, lender, 0) {
             Ok(poster) if usize::from(poster.name().line.0) == line => {}
@@ -31,8 +31,12 @@ fn lends_these<L: Lends<Listing>, R: Wait>(rt: &R, lender: &mut L, lines: usize)
     true
 }
 
-// A queue is listed; its last line is given back and lent once more, and then none is left.
-fn lends_lines<L: Lends<Listing>, R: Wait>(rt: &R, alloc: Global, lender: &mut L) -> Option<bool> {
+/// A queue is listed; its last line is given back and lent once more, and then none is left.
+fn lends_lines<L: Lends<QueueList>, R: Wait>(
+    rt: &R,
+    alloc: Global,
+    lender: &mut L,
+) -> Option<bool> {
     let queue = open_in(rt, alloc, lender, &mut Ends::new(), bell(alloc)?).ok()?;
     let is_missing = matches!(line_to(rt, lender, 7), Err(DirectoryError::NoSuchEnd));
     let are_lent = lends_these(rt, lender, MAX_LINES - 1);
@@ -48,8 +52,8 @@ fn lends_lines<L: Lends<Listing>, R: Wait>(rt: &R, alloc: Global, lender: &mut L
 
 #[test]
 fn a_listing_lends_its_lines(rt: HostRuntime) {
-    let mut own = Listing::new(rt.alloc());
-    let shared = Locked::new(Listing::new(rt.alloc()));
+    let mut own = QueueList::new(rt.alloc());
+    let shared = Locked::new(QueueList::new(rt.alloc()));
     let is_right = lends_lines(&rt, rt.alloc(), &mut own) == Some(true);
     let is_alike = lends_lines(&rt, rt.alloc(), &mut &shared) == Some(true);
     drop(own);
@@ -57,7 +61,7 @@ fn a_listing_lends_its_lines(rt: HostRuntime) {
     assert!(rt; is_right && is_alike);
 }
 
-// The queue of that number, on its way.
+/// The queue of that number, on its way.
 fn queue<R: Wait>(rt: &R, alloc: Global, end: u32) -> Option<HandedQueue> {
     let directory = Directory::new(alloc);
     let ends = &mut Ends { drawn: end };
@@ -66,7 +70,7 @@ fn queue<R: Wait>(rt: &R, alloc: Global, end: u32) -> Option<HandedQueue> {
     Some(HandedQueue::Client(made))
 }
 
-// A queue is fetched by the agent that it is for, and by no other. Two others stay.
+/// A queue is fetched by the agent that it is for, and by no other. Two others stay.
 fn keeps_queues<L: Lends<Kept<Handed>>, R: Wait>(
     rt: &R,
     alloc: Global,
@@ -85,7 +89,7 @@ fn keeps_queues<L: Lends<Kept<Handed>>, R: Wait>(
     Some(is_right)
 }
 
-// The numbers of the ends that are told as closed.
+/// The numbers of the ends that are told as closed.
 fn are_closed(told: &[Grave], ends: &[u32]) -> bool {
     if told.len() != ends.len() {
         return false;

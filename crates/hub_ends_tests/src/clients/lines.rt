@@ -1,5 +1,5 @@
 //! Lines that the directory lends, where step files can't show them.
-use crate::clients::parts::{client, lost_line, worker};
+use crate::clients::{client, lost_line, worker};
 use hub_clients::{ClientQueue, Directory, DirectoryError, WorkerQueue};
 use hub_depot::Depot;
 use hub_envelope::{EndId, MAX_LINES};
@@ -8,7 +8,7 @@ use hub_test_parts::{Posting, bell, is_message, post, take};
 use std::alloc::Global;
 use std::sync::Wait;
 
-// Whether each line of the queue 0 is lent once, in order, though it is lost at once.
+/// Whether each line of the queue 0 is lent once, in order, though it is lost at once.
 fn lends_each_once<R: Wait>(rt: &R, directory: &Directory) -> bool {
     for line in 0..MAX_LINES as u8 {
         match lost_line(rt, directory, 0) {
@@ -29,13 +29,13 @@ fn a_lost_line_is_never_lent_again(rt: HostRuntime) {
     assert!(rt; is_right);
 }
 
-// A poster of a mailbox of its own.
+/// A poster of a mailbox of its own.
 fn stranger(alloc: Global, end: EndId) -> Option<Poster> {
     let (_taker, mut posters) = Mailbox::open(alloc, end, 1, bell(alloc)?).ok()?;
     posters.pop()
 }
 
-// Whether a poster of another mailbox of that number comes back.
+/// Whether a poster of another mailbox of that number comes back.
 fn refuses_stranger<R: Wait>(rt: &R, alloc: Global, directory: &Directory, end: u32) -> bool {
     let Some(poster) = stranger(alloc, EndId(end)) else {
         return false;
@@ -62,7 +62,7 @@ fn only_a_line_that_is_out_is_given_back(rt: HostRuntime) {
     assert!(rt; is_right);
 }
 
-// What a post over a line to the queue of this number comes to. The line is given back.
+/// What a post over a line to the queue of this number comes to. The line is given back.
 fn post_at<R: Wait>(rt: &R, alloc: Global, directory: &Directory, end: u32) -> Option<Posting> {
     let yard = Depot::<Onward>::new(alloc);
     let mut poster = directory.line_to(rt, EndId(end)).ok()?;
@@ -98,7 +98,7 @@ fn close(queue: Option<ClientQueue>) -> bool {
     }
 }
 
-// Whether the queues 7 and 1, made in this order, are found each under its number.
+/// Whether the queues 7 and 1, made in this order, are found each under its number.
 fn finds_each<R: Wait>(rt: &R, alloc: Global, directory: &Directory) -> bool {
     let seventh = client(rt, alloc, directory, &mut Ends { drawn: 7 });
     let first = worker(rt, alloc, directory, &mut Ends { drawn: 1 });

@@ -1,6 +1,6 @@
 //! A flight and a yard of one's own, and the same behind a lock: posts, arrivals and adoptions
 //! answer alike over both. What is told is kept in a list.
-use crate::ports::parts::{entangled, room};
+use crate::ports::{entangled, room};
 use hub_depot::{Depot, Kept};
 use hub_envelope::{AgentId, EndId, Envelope};
 use hub_locked::Lends;
@@ -13,7 +13,7 @@ use hub_test_parts::{bell, body, draft, take};
 use std::alloc::Global;
 use std::sync::Wait;
 
-// A mailbox with one line.
+/// A mailbox with one line.
 fn mailbox(alloc: Global, end: u32) -> Option<(Taker, Poster)> {
     let (mut taker, mut posters) = Mailbox::open(alloc, EndId(end), 1, bell(alloc)?).ok()?;
     taker.start();
@@ -27,7 +27,7 @@ fn taken<R: Wait>(rt: &R, taker: &mut Taker) -> Option<Envelope> {
     }
 }
 
-// How many of the ports that the envelope names are found in flight, and how many are missing.
+/// How many of the ports that the envelope names are found in flight, and how many are missing.
 fn arrived<L: Lends<Kept<Port>>, R: Wait>(
     rt: &R,
     alloc: Global,
@@ -40,7 +40,7 @@ fn arrived<L: Lends<Kept<Port>>, R: Wait>(
     Some(counts)
 }
 
-// A port is sent over a line, and found in flight once.
+/// A port is sent over a line, and found in flight once.
 fn flies<L: Lends<Kept<Port>>, R: Wait>(
     rt: &R,
     alloc: Global,
@@ -85,7 +85,7 @@ fn a_port_in_flight_is_found_once(rt: HostRuntime) {
 
 type Emptied = (Swept, Option<(Spent, Noticed)>);
 
-// A port in flight is closed with its notice, and one in hand too, in order.
+/// A port in flight is closed with its notice, and one in hand too, in order.
 fn closes<R: Wait>(rt: &R, alloc: Global, flight: &mut Kept<Port>) -> Option<bool> {
     let yard = Depot::<Onward>::new(alloc);
     let mut ends = Ends::new();
@@ -118,7 +118,7 @@ fn each_step_of_a_closing_is_told(rt: HostRuntime) {
     assert!(rt; is_right);
 }
 
-// A line whose end has moved goes on over the yard, and the points of its post are told.
+/// A line whose end has moved goes on over the yard, and the points of its post are told.
 fn hops<L: Lends<Kept<Onward>>, R: Wait>(rt: &R, alloc: Global, yard: &mut L) -> Option<bool> {
     let (taker, mut poster) = mailbox(alloc, 0)?;
     let mut told = Vec::<Point>::new(alloc);

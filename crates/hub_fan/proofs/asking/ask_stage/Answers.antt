@@ -1,7 +1,7 @@
 use Rattle.std.proofs.Common.{◌≡◌, ◌∙◌, ◌<◌, ◌+◌, ℕ, sym, ap, subst, length, arith, ⊎_elim}
 use Rattle.std.proofs.lemmas.Bool.{cases_lt}
 use Rattle.hub_fan.specs.Fans.{AskedWhere}
-use Rattle.hub_fan.specs.Turns.{stage_of}
+use Rattle.hub_fan.specs.Turns.{turn_stage}
 use Rattle.hub_fan.proofs.Asked.{asked_more, asked_same}
 use Rattle.hub_fan.proofs.asking.ask_stage.Goals as goal
 use Rattle.hub_fan.proofs.asking.ask_stage.Goals.{then-stage_at-stage+in-Empty, else-stage_at-stage}
@@ -9,7 +9,7 @@ use Rattle.hub_fan.proofs.asking.ask_stage.Goals.{then-stage_at-stage+in-Empty, 
 pub loop-line-preserved : goal.loop-line-preserved
 loop-line-preserved g c =
     let line = c.loop-line.line in
-    let stage : ℕ → ℕ = stage_of c.args.next c.args.ready in
+    let stage : ℕ → ℕ = turn_stage c.args.next c.args.ready in
     let so_far : ℕ → ℕ → Type 0 = λ k j. (stage j ≡ c.args.stage) × (j < k) in
     let low : line < length c.loop-line.lines = omega (arith, c.loop-line-test.true, c.bounds_of-from.ensures.within, c.loop-line.auto.lines) in
     elim c.if-stage_at-stage.branch [

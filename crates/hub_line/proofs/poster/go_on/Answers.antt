@@ -2,7 +2,7 @@ use Rattle.std.proofs.Common.{rules, ◌≡◌, [], ◌∷◌, ◌++◌, List, a
 use Rattle.rtrb.specs.Ring.{sent}
 use Rattle.hub_line.specs.Rings.{fed, IsRing}
 use Rattle.hub_line.specs.Tracks.{settled}
-use Rattle.hub_line.specs.declared.track.Track.TheVariants.{Onward}
+use Rattle.hub_line.specs.declared.ring.Track.TheVariants.{Onward}
 use Rattle.hub_line.proofs.Tracks.{linked_onward, onward_goes_on, posted_onward}
 use Rattle.hub_line.proofs.poster.go_on.Goals as goal
 

@@ -1,7 +1,7 @@
 use Rattle.std.proofs.Common.{◌∙◌, ap}
 use Rattle.rtrb.specs.Ring.{received}
-use Rattle.hub_line.specs.declared.source.Source.{Source}
-use Rattle.hub_line.specs.declared.track.Ahead.TheVariants.{Open}
+use Rattle.hub_line.specs.declared.ring.Source.{Source}
+use Rattle.hub_line.specs.declared.ring.Ahead.TheVariants.{Open}
 use Rattle.hub_line.specs.Reach.{taken_of}
 use Rattle.hub_line.proofs.Reach.{hop_same}
 use Rattle.hub_line.proofs.taker.hop.Goals as goal

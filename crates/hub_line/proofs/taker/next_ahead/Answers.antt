@@ -1,7 +1,7 @@
 use Rattle.std.proofs.Common.{rules, ◌≡◌, [], ◌∷◌, ◌++◌}
 use Rattle.rtrb.specs.Ring.{received}
 use Rattle.hub_line.specs.Rings.{given, known, fed}
-use Rattle.hub_line.specs.declared.track.Track.TheVariants.{Onward, End}
+use Rattle.hub_line.specs.declared.ring.Track.TheVariants.{Onward, End}
 use Rattle.hub_line.proofs.Reach.{onward_reached, end_reached, heard_same}
 use Rattle.hub_line.proofs.taker.next_ahead.Goals as goal
 

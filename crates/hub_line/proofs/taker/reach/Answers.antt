@@ -1,7 +1,7 @@
 use Rattle.std.proofs.Common.{rules}
 use Rattle.rtrb.specs.Ring.{received}
 use Rattle.hub_line.specs.Reach.{HasReached}
-use Rattle.hub_line.specs.declared.track.Ahead.TheVariants.{Last}
+use Rattle.hub_line.specs.declared.ring.Ahead.TheVariants.{Last}
 use Rattle.hub_line.proofs.Reach.{all_of_it}
 use Rattle.hub_line.proofs.taker.reach.Goals as goal
 

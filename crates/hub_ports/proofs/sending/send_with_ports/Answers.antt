@@ -2,7 +2,7 @@ use Rattle.std.proofs.Common.{arith, ◌≡◌, ◌≤◌, length, true, false, 
 use Rattle.std.specs.List.{list_any}
 use Rattle.hub_depot.specs.declared.kept.Key.{Key}
 use Rattle.hub_envelope.specs.declared.limits.TheConstants.{MAX_PORTS}
-use Rattle.hub_ports.specs.Seats.{has_end}
+use Rattle.hub_ports.specs.Seats.{is_numbered}
 use Rattle.hub_ports.proofs.Listed.{found-listed, listed-found}
 use Rattle.hub_ports.proofs.sending.send_with_ports.Goals as goal
 
@@ -10,8 +10,8 @@ pub returns-then-holds-clause-doomed : goal.returns-then-holds-clause-doomed
 returns-then-holds-clause-doomed g c =
     let ports = c.args.transfer.items in
     let peer = c.args.line.now.name.end in
-    let found : list_any (has_end peer) ports ≡ true =
-    sym (c.holds.ensures ∙ ap (λ (k : Key). list_any (has_end k.end) c.as_slice.result.now) c.name.ensures ∙ ap (list_any (has_end peer)) c.as_slice.ensures.value) ∙ c.if-holds.true in
+    let found : list_any (is_numbered peer) ports ≡ true =
+    sym (c.holds.ensures ∙ ap (λ (k : Key). list_any (is_numbered k.end) c.as_slice.result.now) c.name.ensures ∙ ap (list_any (is_numbered peer)) c.as_slice.ensures.value) ∙ c.if-holds.true in
     let few : length ports ≤ MAX_PORTS = omega (arith, c.args.transfer.ok.0) in
     (λ doomed. (few, found-listed peer ports found), λ holds. tt)
 
@@ -19,6 +19,6 @@ pub returns-clause-doomed : goal.returns-clause-doomed
 returns-clause-doomed g c =
     let ports = c.args.transfer.items in
     let peer = c.args.line.now.name.end in
-    let missed : list_any (has_end peer) ports ≡ false =
-    sym (c.holds.ensures ∙ ap (λ (k : Key). list_any (has_end k.end) c.as_slice.result.now) c.name.ensures ∙ ap (list_any (has_end peer)) c.as_slice.ensures.value) ∙ c.if-holds.false in
+    let missed : list_any (is_numbered peer) ports ≡ false =
+    sym (c.holds.ensures ∙ ap (λ (k : Key). list_any (is_numbered k.end) c.as_slice.result.now) c.name.ensures ∙ ap (list_any (is_numbered peer)) c.as_slice.ensures.value) ∙ c.if-holds.false in
     (λ doomed. absurd (c.post_with_ports.ensures.doomed doomed), λ holds. let wrong : true ≡ false = sym (listed-found peer ports holds.1) ∙ missed in cc)

@@ -1,7 +1,7 @@
 use Rattle.std.proofs.Common.{◌≡◌, ◌≤◌, All, length, ℕ, ◌<◌, get_or}
 use Rattle.hub_life.specs.OrderSeat.{OrderSeat}
 use Rattle.hub_agent.specs.declared.opening.Seat.{Seat}
-use Rattle.hub_run.specs.Seats.{Gets}
+use Rattle.hub_run.specs.Seats.{GetsPeer}
 use Rattle.hub_run.proofs.making.add_peer.Given as goal
 
 abbrev pub invariant-loop-place : goal.invariant-loop-place
@@ -9,6 +9,6 @@ invariant-loop-place l = record {
   count : length l.seats ≡ length l.fn.seats;
   end : l.place-end ≡ length l.fn.seats;
   orders : (seat : OrderSeat) → All (λ (o : OrderSeat). o ≡ seat) l.fn.orders.items → All (λ (o : OrderSeat). o ≡ seat) l.orders.items;
-  got : (seat : OrderSeat) → All (λ (o : OrderSeat). o ≡ seat) l.fn.orders.items → (k : ℕ) (d : Seat) → k < l.place → Gets seat (get_or l.fn.seats k d) (get_or l.seats k d);
+  got : (seat : OrderSeat) → All (λ (o : OrderSeat). o ≡ seat) l.fn.orders.items → (k : ℕ) (d : Seat) → k < l.place → GetsPeer seat (get_or l.fn.seats k d) (get_or l.seats k d);
   same : (k : ℕ) (d : Seat) → l.place ≤ k → get_or l.seats k d ≡ get_or l.fn.seats k d;
 }

@@ -2,7 +2,7 @@ use Rattle.std.specs.Prelude.{◌≡◌, ℕ, ◌+◌, ◌<◌, get_or, vec_item
 use Rattle.std.specs.Vec.Iter.{into_iter_len}
 use Rattle.std.proofs.Common.{rules, arith, below_more, length, subst, sym}
 use Rattle.hub_agent.specs.declared.actor.Acted.{Acted}
-use Rattle.hub_script.specs.Contents.{Contents, agents}
+use Rattle.hub_script.specs.Contents.{Contents, declared_agents}
 use Rattle.hub_trace.specs.Accepted.{AgentLog}
 use Rattle.hub_agent.specs.Acting.{IsRunFor}
 use Rattle.hub_run.proofs.Logs.{runs_for}
@@ -43,7 +43,7 @@ returns g c =
     let logs = vec_items c.loop-handle.run.logs in
     let acted = vec_items c.loop-handle.run.acted in
     let ended : into_iter_len c.loop-handle.handle-iterator ≡ 0 = search rules in
-    let many : vec_len c.loop-handle.run.logs ≡ length (agents c.args._script.now) = search rules in
-    let as_many : length logs ≡ length (agents c.args._script.now) = search rules in
-    let all : length acted ≡ length (agents c.args._script.now) = search rules in
+    let many : vec_len c.loop-handle.run.logs ≡ length (declared_agents c.args._script.now) = search rules in
+    let as_many : length logs ≡ length (declared_agents c.args._script.now) = search rules in
+    let all : length acted ≡ length (declared_agents c.args._script.now) = search rules in
     runs_for c.args._script.now logs acted as_many all (λ k d e below. was.4 k d e (search rules))

@@ -3,7 +3,7 @@ use Rattle.std.proofs.Common.{rules, arith, below_more, ap, subst, sym, ◌∙�
 use Rattle.std.specs.Vec.Iter.{into_iter_items}
 use Rattle.hub_run.proofs.Gives.{AreGivenFrom, given_next}
 use Rattle.hub_agent.specs.Given.{IsGiven}
-use Rattle.hub_run.specs.Threads.{Handle}
+use Rattle.hub_run.specs.Threads.{AgentThread}
 use Rattle.hub_run.specs.declared.run.Part.{Part}
 use Rattle.hub_run.proofs.run.start_all.Goals as goal
 
@@ -26,10 +26,10 @@ loop-agent-preserved g c =
     let script_is : c.in_ok-handle.handle.promise.script.now ≡ c.args.script.now = ap (λ (p : Part). p.script.now) promised in (
       search rules,
       (λ k d below. below_more (λ i. (get_or new i d).promise.number.0 ≡ i) done
-          (λ i low. ap (λ (h : Handle). h.promise.number.0) (c.in_ok-push.ensures.others i d low) ∙ was.1 i d low)
-          (ap (λ (h : Handle). h.promise.number.0) (c.in_ok-push.ensures.last d) ∙ number_is) k (omega arith)),
+          (λ i low. ap (λ (h : AgentThread). h.promise.number.0) (c.in_ok-push.ensures.others i d low) ∙ was.1 i d low)
+          (ap (λ (h : AgentThread). h.promise.number.0) (c.in_ok-push.ensures.last d) ∙ number_is) k (omega arith)),
       (λ k d below. below_more (λ i. (get_or new i d).promise.script.now ≡ c.args.script.now) done
-          (λ i low. ap (λ (h : Handle). h.promise.script.now) (c.in_ok-push.ensures.others i d low) ∙ was.2 i d low)
-          (ap (λ (h : Handle). h.promise.script.now) (c.in_ok-push.ensures.last d) ∙ script_is) k (omega arith)),
+          (λ i low. ap (λ (h : AgentThread). h.promise.script.now) (c.in_ok-push.ensures.others i d low) ∙ was.2 i d low)
+          (ap (λ (h : AgentThread). h.promise.script.now) (c.in_ok-push.ensures.last d) ∙ script_is) k (omega arith)),
       subst (λ n. AreGivenFrom c.args.script.now n (into_iter_items c.next.new.self)) (sym grown) (given_next c.args.script.now done c.in-Some.agent (into_iter_items c.loop-agent.agent-iterator) (into_iter_items c.next.new.self) step.0 was.3).1,
     )

@@ -4,7 +4,7 @@ use Rattle.serde_json.specs.Data.{depth}
 use Rattle.serde_json.specs.Find.{get}
 use Rattle.serde_json.specs.Read.{read}
 use Rattle.serde_json.specs.View.{view}
-use Rattle.hub_script.specs.declared.script_error.ScriptError.TheVariants.{OutOfMemory}
+use Rattle.hub_script.specs.declared.error.ScriptError.TheVariants.{OutOfMemory}
 use Rattle.hub_script.proofs.Bodies.{answered, in_field, is_field}
 use Rattle.hub_script.proofs.fields.body_in.Goals as goal
 

@@ -1,7 +1,7 @@
 use Rattle.std.proofs.Common.{◌≡◌, true, sym, ap, subst, inr, ◌∙◌}
 use Rattle.std.specs.Str.{is_utf8}
 use Rattle.hub_text.specs.Reading.{IsReadAs}
-use Rattle.hub_script.specs.declared.script_error.ScriptError.TheVariants.{OutOfMemory}
+use Rattle.hub_script.specs.declared.error.ScriptError.TheVariants.{OutOfMemory}
 use Rattle.hub_script.specs.Form.{text_form}
 use Rattle.hub_script.proofs.LineTexts.{form_of_text, not_utf8, on_error, on_value, valid}
 use Rattle.hub_script.proofs.read_form.read_form.Goals as goal

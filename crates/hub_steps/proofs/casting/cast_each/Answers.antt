@@ -12,8 +12,8 @@ loop-end-preserved c =
     let body = c.args.body.now in
     let refused = c.args.memory_refused in
     let done = c.loop-end.end-index in
-    subst (CastFirst c.args.core.now c.cast_to.new.core (done + 1) refused body ends) (sym c.in_ok-push.ensures.items)
-    (cast_more done c.args.core.now c.loop-end.core c.cast_to.new.core refused body ends _ c.in_ok-outcome.outcome c.loop-end.posts.items (drop-cons ends done _ c.loop-end-test.true) c.loop-end.invariant c.in_ok-outcome.ensures)
+    subst (CastFirst c.args.core.now c.cast_over.new.core (done + 1) refused body ends) (sym c.in_ok-push.ensures.items)
+    (cast_more done c.args.core.now c.loop-end.core c.cast_over.new.core refused body ends _ c.in_ok-outcome.outcome c.loop-end.posts.items (drop-cons ends done _ c.loop-end-test.true) c.loop-end.invariant c.in_ok-outcome.ensures)
 
 pub returns : goal.returns
 returns c =

@@ -1,7 +1,7 @@
 use Rattle.std.proofs.Common.{List, length, map, drop, sym, ap, subst}
 use Rattle.std.proofs.lemmas.List.{take_rest}
 use Rattle.hub_trace.specs.declared.log_entry.Delivery.{Delivery}
-use Rattle.hub_trace.specs.declared.received.Arrival.{Arrival}
+use Rattle.hub_trace.specs.declared.received.Incoming.{Incoming}
 use Rattle.hub_trace.specs.Got.{Receipt}
 use Rattle.hub_trace.specs.Clean.{IsCleanLine}
 use Rattle.hub_trace.specs.Fault.{IsFirstFault}
@@ -39,8 +39,8 @@ loop-first-preserved c =
     let same = sym (take_rest rest n) in
     let clean = subst (λ (p : List Delivery). IsCleanLine p (map receipt_of c.front_of_line-got.result.now)) (ap (map delivery_of) c.accepted_of-put.ensures) c.in_default-fault_of_line.ensures in
     record {
-      order = subst (RisesByLine (λ (a : Arrival). a.posted)) same (RisesByLine-drop (λ (a : Arrival). a.posted) rest n front.within c.loop-first.invariant.order);
-      left = λ x y. subst (λ (l : List Arrival). IsLeft accepted arrivals l x y) same (step_left accepted arrivals rest c.front_of_line-got.result.now (drop n rest) end line front.front front.line clean c.loop-first.invariant.left x y);
+      order = subst (RisesByLine (λ (a : Incoming). a.posted)) same (RisesByLine-drop (λ (a : Incoming). a.posted) rest n front.within c.loop-first.invariant.order);
+      left = λ x y. subst (λ (l : List Incoming). IsLeft accepted arrivals l x y) same (step_left accepted arrivals rest c.front_of_line-got.result.now (drop n rest) end line front.front front.line clean c.loop-first.invariant.left x y);
     }
 
 pub returns : goal.returns

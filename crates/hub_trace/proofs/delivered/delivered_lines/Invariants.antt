@@ -1,7 +1,7 @@
 use Rattle.std.proofs.Common.{◌≡◌, ◌≢◌, ◌++◌, ℕ, [], length}
 use Rattle.std.specs.List.{All, AllPairs}
 use Rattle.hub_trace.specs.Deliveries.{IsEarlierLine, names_of, names_under}
-use Rattle.hub_trace.specs.Views.{RisesByLine, got_in}
+use Rattle.hub_trace.specs.Views.{RisesByLine, got_among}
 use Rattle.hub_trace.proofs.Listing.{IsLater}
 use Rattle.hub_trace.proofs.delivered.delivered_lines.Given as goal
 
@@ -11,7 +11,7 @@ invariant-loop-first l = record {
   rising : AllPairs IsEarlierLine l.lines.items;
   none_empty : All (λ d. d.names.items ≢ []) l.lines.items;
   later : All (λ d. All (IsLater d) l.rest) l.lines.items;
-  told : (end line : ℕ) → names_under end line l.lines.items ++ names_of (got_in l.rest end line) ≡ names_of (got_in l.arrivals end line);
+  told : (end line : ℕ) → names_under end line l.lines.items ++ names_of (got_among l.rest end line) ≡ names_of (got_among l.arrivals end line);
 }
 
 abbrev pub decreases-loop-first : goal.decreases-loop-first

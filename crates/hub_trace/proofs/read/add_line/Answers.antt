@@ -1,7 +1,7 @@
-use Rattle.hub_trace.specs.declared.log_error.LogError.TheVariants.{OutOfMemory}
+use Rattle.hub_trace.specs.declared.error.LogError.TheVariants.{OutOfMemory}
 use Rattle.hub_trace.specs.declared.log_line.LogLine.TheVariants as line
 use Rattle.hub_trace.specs.Limits.{AreWithin, IsLogLineWithin}
-use Rattle.hub_trace.specs.Read.{with_line}
+use Rattle.hub_trace.specs.Read.{with_log_line}
 use Rattle.hub_trace.proofs.Versions.{entry_wider}
 use Rattle.hub_trace.proofs.Within.{line_within, on_read}
 use Rattle.hub_trace.proofs.read.add_line.Goals as goal
@@ -13,7 +13,7 @@ returns-in-Entry-clause-within c =
     let new = c.add_entry.new.logs.items in
     let entry = c.in-Entry.entry in
     let within : IsLogLineWithin v (line.Entry entry) = rw c.in-Entry.is at c.in_ok-agent.ensures.within in
-    on_read OutOfMemory (λ _. new) c.add_entry.result (with_line old (line.Entry entry)) (AreWithin v old → AreWithin v new)
+    on_read OutOfMemory (λ _. new) c.add_entry.result (with_log_line old (line.Entry entry)) (AreWithin v old → AreWithin v new)
     (λ _ added. line_within v old new (line.Entry entry) added within) c.add_entry.ensures.says
 
 pub add_entry-requires-clause-within : goal.add_entry-requires-clause-within

@@ -1,7 +1,7 @@
 use Rattle.std.proofs.Common.{rules, ◌≡◌, ◌+◌, List, [], ◌∷◌, Option, Some, None, length, refl, true, false, bytes_eq, Ok, Err, inr, sym, ap, ◌∙◌, arith}
 use Rattle.std.proofs.lemmas.Bool.{eqb-true}
 use Rattle.hub_trace.specs.declared.read.TheConstants.{LOGS_END}
-use Rattle.hub_trace.specs.declared.log_error.LogError.TheVariants as error
+use Rattle.hub_trace.specs.declared.error.LogError.TheVariants as error
 use Rattle.hub_trace.specs.Accepted.{AgentLog}
 use Rattle.hub_trace.specs.LogVersion.{version_of}
 use Rattle.hub_trace.specs.declared.log_version.LogVersion.{LogVersion}

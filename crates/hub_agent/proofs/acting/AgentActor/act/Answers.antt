@@ -2,7 +2,7 @@ use Rattle.std.specs.Prelude.{option_map}
 use Rattle.std.proofs.Common.{◌∙◌, OnOk, ap, subst, sym}
 use Rattle.hub_life.specs.Course.{after}
 use Rattle.hub_loop.specs.Starting.{StartsClient}
-use Rattle.hub_agent.specs.Agents.{AgentState, ordered, with_peer}
+use Rattle.hub_agent.specs.Agents.{AgentState, peer_ordered, with_peer}
 use Rattle.hub_agent.specs.Acting.{Acts}
 use Rattle.hub_agent.proofs.Doing.{acts_of, acts_while, hand_acts, lived_acts, loaded_acts, ordered_acts, started_acts}
 use Rattle.hub_agent.proofs.Sending.{post_acts, send_acts}
@@ -59,7 +59,7 @@ returns-in-Order-clause-ok g c =
     let now : AgentState = record { notes = self.scribe; ends = self.event_loop.holding.held; kept = self.event_loop.kept; order = self.order; peers = c.give_order.new.peers.items; life = self.life; roster = _ } in
     subst (λ action. Acts action c.args.self.now now) (sym c.in-Order.is)
     (ordered_acts c.in-Order.to c.args.self.now now (
-    λ i. record { notes = (was i).notes; ends = (was i).ends; kept = (was i).kept; order = (was i).order; peers = (c.give_order.ensures ∙ ap (λ (a : AgentState). with_peer ordered c.in-Order.to.0 a.peers) was) i; life = (was i).life; roster = (was i).roster }
+    λ i. record { notes = (was i).notes; ends = (was i).ends; kept = (was i).kept; order = (was i).order; peers = (c.give_order.ensures ∙ ap (λ (a : AgentState). with_peer peer_ordered c.in-Order.to.0 a.peers) was) i; life = (was i).life; roster = (was i).roster }
     ))
 
 pub returns-in-Event-clause-ok : goal.returns-in-Event-clause-ok

@@ -1,7 +1,7 @@
 use Rattle.std.proofs.Common.{◌∙◌, Bool, List, ap, rules, subst, sym}
 use Rattle.hub_trace.specs.declared.log_entry.LogEntry.{LogEntry}
 use Rattle.hub_agent.specs.Agents.{AgentState}
-use Rattle.hub_agent.specs.Entries.{IsComeLogged, Writes}
+use Rattle.hub_agent.specs.Entries.{IsComeLogged, WritesEntries}
 use Rattle.hub_agent.proofs.Actions.{accounts_both, accounts_kept}
 use Rattle.hub_agent.proofs.Waiting.{TurnsAll, not_come, stops, turns_more}
 use Rattle.hub_agent.proofs.agent.Agent.turn_until.Goals as goal
@@ -10,7 +10,7 @@ pub returns-in-Ending-clause-written : goal.returns-in-Ending-clause-written
 returns-in-Ending-clause-written g c =
     let now = c.args.self.now.notes in
     let mid = c.has_come.new.self.notes in
-    let came = subst (λ (b : Bool). (entries : List LogEntry) × IsComeLogged c.args.awaited b entries × Writes entries c.loop.self.notes mid) c.if-branch.false c.in_ok-has_come.ensures.written in
+    let came = subst (λ (b : Bool). (entries : List LogEntry) × IsComeLogged c.args.awaited b entries × WritesEntries entries c.loop.self.notes mid) c.if-branch.false c.in_ok-has_come.ensures.written in
     stops c.args.awaited now c.turn.new.self.notes
     (turns_more now mid c.turn.new.self.notes (not_come c.args.awaited now c.loop.self.notes mid c.loop.invariant.turns came) c.in_ok-turn.ensures.written)
 
@@ -18,7 +18,7 @@ pub loop-preserved : goal.loop-preserved
 loop-preserved g c =
     let now = c.args.self.now.notes in
     let mid = c.has_come.new.self.notes in
-    let came = subst (λ (b : Bool). (entries : List LogEntry) × IsComeLogged c.args.awaited b entries × Writes entries c.loop.self.notes mid) c.if-branch.false c.in_ok-has_come.ensures.written in
+    let came = subst (λ (b : Bool). (entries : List LogEntry) × IsComeLogged c.args.awaited b entries × WritesEntries entries c.loop.self.notes mid) c.if-branch.false c.in_ok-has_come.ensures.written in
     record {
       turns = subst (TurnsAll now) (sym (ap (λ (a : AgentState). a.notes) c.self.view_is))
           (turns_more now mid c.turn.new.self.notes (not_come c.args.awaited now c.loop.self.notes mid c.loop.invariant.turns came) c.in_ok-turn.ensures.written);

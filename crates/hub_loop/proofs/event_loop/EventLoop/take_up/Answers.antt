@@ -1,7 +1,7 @@
 use Rattle.std.proofs.Common.{◌≡◌, ◌≤◌, List, [], None, Some, length, refl, rules, subst}
 use Rattle.std.specs.Prelude.{Ok}
 use Rattle.hub_bell.specs.declared.board.BoardStep.{BoardStep}
-use Rattle.hub_marks.specs.Finding.{HasStepped}
+use Rattle.hub_ready.specs.Finding.{HasStepped}
 use Rattle.hub_loop.specs.Looping.{holding_of}
 use Rattle.hub_loop.specs.Turning.{IsDue}
 use Rattle.hub_loop.proofs.Delivers.{due-given, due-kept, due-nothing}

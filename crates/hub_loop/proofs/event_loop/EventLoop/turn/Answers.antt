@@ -1,11 +1,11 @@
 use Rattle.std.proofs.Common.{◌≡◌, ◌∙◌, ◌≤◌, ap, length, subst, refl, None, Some, Ok, Err}
 use Rattle.hub_loop.specs.Adopting.{stored}
 use Rattle.hub_loop.specs.Delivering.{IsDelivered}
-use Rattle.hub_loop.specs.Looping.{holding_of}
+use Rattle.hub_loop.specs.Looping.{holding_of, turn_state}
 use Rattle.hub_loop.specs.Marking.{AreMarked, AreNewMarked}
 use Rattle.hub_loop.specs.Turning.{IsDue}
-use Rattle.hub_loop.specs.declared.loop_error.LoopError.{LoopError}
-use Rattle.hub_loop.specs.declared.loop_error.LoopError.TheVariants.{OutOfMemory}
+use Rattle.hub_loop.specs.declared.error.LoopError.{LoopError}
+use Rattle.hub_loop.specs.declared.error.LoopError.TheVariants.{OutOfMemory}
 use Rattle.hub_loop.specs.declared.handler.Turn.TheVariants.{Delivered}
 use Rattle.hub_loop.proofs.Delivers.{taken-up}
 use Rattle.hub_loop.proofs.Marks.{marked-due, marked-none}
@@ -64,7 +64,8 @@ pub returns-in-Ok-deliver-clause-others : goal.returns-in-Ok-deliver-clause-othe
 returns-in-Ok-deliver-clause-others g c =
     let old = c.args.self.now in
     let turn = returns-in-Ok-deliver-clause-turn g c in
-    others-turn {E = LoopError} g.H.Handler.leaves g.H.Handler.refuses old.holding (holding_of c.deliver.new.holding) turn.0 old.kept c.self-2.inside.kept old.handler c.deliver.new.handler c.args.steps.now c.take_up.new.steps (Ok Delivered) turn.2
+    others-turn {E = LoopError} g.H.Handler.leaves g.H.Handler.refuses (turn_state old c.args.steps.now)
+    (record { holding = holding_of c.deliver.new.holding; kept = c.self-2.inside.kept; handler = c.deliver.new.handler; pops = c.take_up.new.steps }) turn.0 (Ok Delivered) turn.2
 
 pub returns-in-Err-deliver-clause-turn : goal.returns-in-Err-deliver-clause-turn
 returns-in-Err-deliver-clause-turn g c =
@@ -88,7 +89,8 @@ pub returns-in-Err-deliver-clause-others : goal.returns-in-Err-deliver-clause-ot
 returns-in-Err-deliver-clause-others g c =
     let old = c.args.self.now in
     let turn = returns-in-Err-deliver-clause-turn g c in
-    others-turn {E = LoopError} g.H.Handler.leaves g.H.Handler.refuses old.holding (holding_of c.deliver.new.holding) turn.0 old.kept (Some c.deliver.new.self) old.handler c.deliver.new.handler c.args.steps.now c.take_up.new.steps (Err OutOfMemory) turn.2
+    others-turn {E = LoopError} g.H.Handler.leaves g.H.Handler.refuses (turn_state old c.args.steps.now)
+    (record { holding = holding_of c.deliver.new.holding; kept = Some c.deliver.new.self; handler = c.deliver.new.handler; pops = c.take_up.new.steps }) turn.0 (Err OutOfMemory) turn.2
 
 pub returns-in-Ok-deliver-clause-pops : goal.returns-in-Ok-deliver-clause-pops
 returns-in-Ok-deliver-clause-pops g c = tt

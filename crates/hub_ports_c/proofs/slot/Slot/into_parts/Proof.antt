@@ -28,10 +28,10 @@ use Rattle.std.specs.contracts.alloc.Global as heap
 use Rattle.std.proofs.alloc.Global.TheLaws as heap_laws
 use Rattle.std.specs.contracts.impls.GlobalAllocator.TheImpl.{ghosts, dict}
 use Rattle.hub_ports_c.specs.Held.{Held}
-use Rattle.hub_ports_c.specs.declared.kept.Kept.{Kept}
-use Rattle.hub_ports_c.specs.contracts.kept.Kept as inner
-use Rattle.hub_ports_c.proofs.kept.Kept.TheLaws as inner_laws
-use Rattle.hub_ports_c.specs.contracts.parts.Parts as parts
+use Rattle.hub_ports_c.specs.declared.resource.Resource.{Resource}
+use Rattle.hub_ports_c.specs.contracts.resource.Resource as inner
+use Rattle.hub_ports_c.proofs.resource.Resource.TheLaws as inner_laws
+use Rattle.hub_ports_c.specs.contracts.slot.RawBox as parts
 use Rattle.hub_ports_c.specs.contracts.slot.Slot as slot
 use Rattle.hub_ports_c.specs.contracts.slot.Slot.into_parts.{ended, clauses}
 use Rattle.hub_ports_c.specs.contracts.slot.Slot.into_parts.Key.{name as #self}
@@ -44,7 +44,7 @@ E = record { row = inner.the_row; laws = inner_laws.the_row_laws; al = record { 
 abbrev stayed : Stays ended.signature.params ended.kept
 stayed = (stay_dropped (plain (λ _. slot.the_row)) yes, tt)
 
-none_is : IsSome {T = Kept} None → ⊥
+none_is : IsSome {T = Resource} None → ⊥
 none_is e = cc
 
 module _ {M : Type 1} (𝓤 : Ura M) (𝓛 : Logic 𝓤) (𝓜 : Model 𝓤 𝓛.H) (𝓡 : Running 𝓤 𝓛.H 𝓜) where

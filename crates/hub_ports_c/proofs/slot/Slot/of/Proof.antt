@@ -24,9 +24,9 @@ use Rattle.std.specs.Prelude.{Some}
 use Rattle.std.specs.contracts.alloc.Global as heap
 use Rattle.std.proofs.alloc.Global.TheLaws as heap_laws
 use Rattle.std.specs.contracts.impls.GlobalAllocator.TheImpl.{ghosts, dict}
-use Rattle.hub_ports_c.specs.contracts.kept.Kept as inner
-use Rattle.hub_ports_c.proofs.kept.Kept.TheLaws as inner_laws
-use Rattle.hub_ports_c.specs.contracts.parts.Parts as parts
+use Rattle.hub_ports_c.specs.contracts.resource.Resource as inner
+use Rattle.hub_ports_c.proofs.resource.Resource.TheLaws as inner_laws
+use Rattle.hub_ports_c.specs.contracts.slot.RawBox as parts
 use Rattle.hub_ports_c.specs.contracts.slot.Slot as slot
 use Rattle.hub_ports_c.specs.contracts.slot.Slot.of.{ended, clauses}
 use Rattle.hub_ports_c.specs.contracts.slot.Slot.of.Key.{name as #self}

@@ -1,6 +1,6 @@
 use Rattle.std.proofs.Common.{◌∙◌, ◌+◌, subst}
 use Rattle.hub_queue.specs.declared.stand.Tried.TheVariants.{Answered, Turned}
-use Rattle.hub_queue.specs.Standing.{StandSeat, IsNext}
+use Rattle.hub_queue.specs.Standing.{StandSeat, FollowsStand}
 use Rattle.hub_queue.specs.Trying.{IsTried}
 use Rattle.hub_queue.proofs.Hopping.{answered_there, gone_more}
 use Rattle.hub_queue.proofs.Hops.{went_there, hopped, held_by_none, told_hop, told_hop_alone, told_answered}
@@ -9,7 +9,7 @@ use Rattle.hub_queue.proofs.stand.Stand.post_onward.Goals as goal
 pub returns-in-Answered-clause-posted : goal.returns-in-Answered-clause-posted
 returns-in-Answered-clause-posted g c =
     answered_there c.args.self.now c.loop-hop.self c.in-Some.next c.loop-hop._hop c.args.refusal c.loop-hop.found c.loop-hop.invariant.gone c.loop-hop-test.true
-    (subst (λ (s : StandSeat). IsNext s.name c.in-Some.next) c.self.view_is c.in-Some.ensures.next)
+    (subst (λ (s : StandSeat). FollowsStand s.name c.in-Some.next) c.self.view_is c.in-Some.ensures.next)
     c.try_post.new.self c.args.draft c.loop-hop.draft c.in-Answered.answer c.loop-hop.invariant.same
     (subst (λ (s : StandSeat). IsTried s c.try_post.new.self c.loop-hop.draft (Answered c.in-Answered.answer)) c.go_to.ensures c.in-Answered.ensures.tried)
 
@@ -34,7 +34,7 @@ loop-hop-preserved g c =
     let there = went_there _ _ _ c.args.self.now.name c.loop-hop.self _ c.in-Some.next c.try_post.new.self c.loop-hop._hop kept.gone.name c.self.view_is c.in-Some.ensures.next kept.went c.in-Some.ensures.found c.in-Some.ensures.rest tried.0 in
     record {
       gone = gone_more c.args.self.now c.loop-hop.self c.in-Some.next c.loop-hop._hop c.args.refusal c.loop-hop.found kept.gone c.loop-hop-test.true
-          (subst (λ (s : StandSeat). IsNext s.name c.in-Some.next) c.self.view_is c.in-Some.ensures.next)
+          (subst (λ (s : StandSeat). FollowsStand s.name c.in-Some.next) c.self.view_is c.in-Some.ensures.next)
           c.try_post.new.self c.loop-hop.draft c.in-Turned.back c.in-Turned.refusal tried;
       same = c.in-Turned.ensures.tried.2 ∙ kept.same;
       went = there.0;

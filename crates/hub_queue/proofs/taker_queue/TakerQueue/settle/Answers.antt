@@ -4,7 +4,7 @@ use Rattle.hub_core.specs.Sender.{by}
 use Rattle.hub_queue.specs.declared.store.PassView.TheVariants.{Takes}
 use Rattle.hub_queue.specs.TakerQueues.{tags_of, KnowsAll, KnowsBy}
 use Rattle.hub_queue.specs.Seats.{take_in}
-use Rattle.hub_queue.specs.Settling.{looked, knowing}
+use Rattle.hub_queue.specs.Settling.{after_look, knowing}
 use Rattle.hub_queue.proofs.Rights.{tags_by_count, tags_stay, knows_all}
 use Rattle.hub_queue.proofs.taker_queue.TakerQueue.settle.Goals as goal
 
@@ -19,7 +19,7 @@ returns-in-Rights c =
     let at : take_in c.take_in_all.new.pass.me.view.client ≡ knowing (take_in c.self.inside.pass.me.view.client) c.in-Rights.rights.items = ap take_in c.take_in_all.ensures.taker in (
       c.in-Rights.ensures.word,
       c.in-Rights.rights.items,
-      λ i. record { queue = (c.self.view_is i).queue; at = (at ∙ (λ j. knowing ((c.self.view_is j).at) c.in-Rights.rights.items)) i; keeper = (c.in-Rights.ensures.keeper ∙ (λ j. looked ((c.self.view_is j).keeper) c.in-Rights.ensures.word true)) i },
+      λ i. record { queue = (c.self.view_is i).queue; at = (at ∙ (λ j. knowing ((c.self.view_is j).at) c.in-Rights.rights.items)) i; keeper = (c.in-Rights.ensures.keeper ∙ (λ j. after_look ((c.self.view_is j).keeper) c.in-Rights.ensures.word true)) i },
       subst KnowsAll (sym at) (knows_all _ (take_in c.self.inside.pass.me.view.client) _ (c.in-Rights.ensures.tags ∙ kept.2.tags)),
     )
 

@@ -1,5 +1,5 @@
 use Rattle.std.proofs.Common.{◌≡◌, ◌+◌, ◌*◌, length, take}
-use Rattle.hub_script.specs.Contents.{agents, channels}
+use Rattle.hub_script.specs.Contents.{declared_agents, channels}
 use Rattle.hub_agent.specs.Given.{ports_from}
 use Rattle.hub_run.specs.Giving.{Gives}
 use Rattle.hub_run.proofs.making.Made.add_channels.Given as goal
@@ -7,5 +7,5 @@ use Rattle.hub_run.proofs.making.Made.add_channels.Given as goal
 abbrev pub invariant-loop-declared : goal.invariant-loop-declared
 invariant-loop-declared g l = record {
   given : Gives (λ k. ports_from l.script k 0 (take l.declared-index (channels l.script))) l.fn.self.agents.items l.self.agents.items;
-  drawn : l.self.ends.drawn ≡ length (agents l.script) + 2 * l.declared-index;
+  drawn : l.self.ends.drawn ≡ length (declared_agents l.script) + 2 * l.declared-index;
 }

@@ -2,7 +2,7 @@ use Rattle.std.proofs.Common.{◌≡◌, ◌∙◌, Ok, map, ap, sym}
 use Rattle.hub_envelope.specs.declared.ids.EndId.{EndId}
 use Rattle.hub_script.specs.declared.action.ActionKind.TheVariants as action
 use Rattle.hub_script.specs.Context.{acting}
-use Rattle.hub_script.specs.Known.{Known, end_of, queue_of}
+use Rattle.hub_script.specs.Known.{Known, declared_end, queue_of}
 use Rattle.hub_script.specs.Reader.{known}
 use Rattle.hub_script.proofs.Posting.{sent, transferred}
 use Rattle.hub_script.proofs.script_reader.ScriptReader.add_send.Goals as goal
@@ -14,7 +14,7 @@ returns c =
     let body = c.in_ok-body.body in
     let ports = c.in_ok-ports.ports.items in
     let b = c.in_ok-agent_of.field-0 in
-    let listed : map (end_of k.script) c.as_slice.result.now ≡ c.in_ok-transfer.transfer = cc (c.in_ok-transfer.ensures) in
+    let listed : map (declared_end k.script) c.as_slice.result.now ≡ c.in_ok-transfer.transfer = cc (c.in_ok-transfer.ensures) in
     let acted : acting k a (action.Send (queue_of b) body c.in_ok-transfer.transfer) ≡ known c.act.new.self =
     ap (λ (e : EndId). acting k a (action.Send e body c.in_ok-transfer.transfer)) (sym c.queue_of-queue.ensures) ∙ cc (c.in_ok-act.ensures) in
     sent k c.args.to c.args.body c.args.transfer.now a b ports body c.in_ok-agent_of.ensures c.in_ok-ports.ensures.says c.in_ok-body.ensures

@@ -1,5 +1,5 @@
 use Rattle.std.proofs.Common.{rules, ◌≡◌, List, ◌∷◌, ap, sym, ◌∙◌}
-use Rattle.hub_script.specs.declared.named.NamedEnd.{NamedEnd}
+use Rattle.hub_script.specs.declared.script_reader.NamedEnd.{NamedEnd}
 use Rattle.hub_script.specs.Known.{Known, giving_all, with_holds}
 use Rattle.hub_script.specs.Reader.{known}
 use Rattle.hub_script.proofs.script_reader.ScriptReader.give_all.Goals as goal

@@ -1,3 +1,0 @@
-/// A read or a write failed.
-#[derive(Clone, Copy, Debug, PartialEq, Eq, Drop)]
-pub struct Device;

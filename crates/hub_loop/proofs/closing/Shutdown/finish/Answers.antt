@@ -1,0 +1,25 @@
+use Rattle.hub_loop.specs.Ending.{closing_ends}
+use Rattle.hub_loop.proofs.Notices.{behind-twice}
+use Rattle.hub_loop.proofs.closing.Shutdown.finish.Goals as goal
+
+pub returns-in_err-close_further-clause-further : goal.returns-in_err-close_further-clause-further
+returns-in_err-close_further-clause-further g c =
+    let old = c.args.self.now in
+    let self = c.loop.self in
+    let closed = c.close_further.new.self in
+    behind-twice (closing_ends old) (closing_ends self) (closing_ends closed) old.noticed self.noticed closed.noticed c.loop.invariant.2 c.close_further.ensures.further
+
+pub returns-then-not-branch-clause-further : goal.returns-then-not-branch-clause-further
+returns-then-not-branch-clause-further g c =
+    let old = c.args.self.now in
+    let self = c.loop.self in
+    let closed = c.close_further.new.self in
+    behind-twice (closing_ends old) (closing_ends self) (closing_ends closed) old.noticed self.noticed closed.noticed c.loop.invariant.2 c.close_further.ensures.further
+
+pub loop-preserved : goal.loop-preserved
+loop-preserved g c =
+    let old = c.args.self.now in
+    let self = c.loop.self in
+    let closed = c.close_further.new.self in
+    let behind = behind-twice (closing_ends old) (closing_ends self) (closing_ends closed) old.noticed self.noticed closed.noticed c.loop.invariant.2 c.close_further.ensures.further in
+    (tt, tt, behind)

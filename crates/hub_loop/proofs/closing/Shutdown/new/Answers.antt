@@ -1,0 +1,18 @@
+use Rattle.std.proofs.Common.{rules, ◌∙◌, sym, ap, subst}
+use Rattle.std.specs.Prelude.{count_by}
+use Rattle.std.specs.List.Sorted.{IsNonDecreasing}
+use Rattle.std.proofs.lemmas.List.Sorted.{IsNonDecreasingBy-from_sort_by_key}
+use Rattle.hub_loop.specs.Ending.{is_grave, grave_ends}
+use Rattle.hub_loop.proofs.Counted.{count-permuted, rises}
+use Rattle.hub_loop.proofs.closing.Shutdown.new.Goals as goal
+
+pub returns-clause-sorted : goal.returns-clause-sorted
+returns-clause-sorted c =
+    subst (λ items. IsNonDecreasing (grave_ends items)) (sym c.from_vec.ensures.items)
+    (rises (λ g. g.end) c.sort_unstable_by_key.new.self.items
+    (IsNonDecreasingBy-from_sort_by_key (λ g. g.end) _ c.sort_unstable_by_key.ensures.sorted (λ a r f h. search rules)))
+
+pub returns-clause-same : goal.returns-clause-same
+returns-clause-same c e =
+    ap (count_by (is_grave e)) c.from_vec.ensures.items
+    ∙ count-permuted (is_grave e) c.args.closed.graves.items c.sort_unstable_by_key.new.self.items c.sort_unstable_by_key.ensures.permutation
