@@ -112,7 +112,8 @@ fn log_closing(
     notice: Option<Posted>,
     is_held: bool,
 ) -> Result<(), OutOfMemory>
-    ensures { OnOk result (WritesEntries (ending_entries end notice is_held) scribe.old scribe.new) }
+    ensures { OnOk result (WritesEntries (ending_entries end notice is_held)
+        scribe.old scribe.new) }
 {
     if let Some(posted) = notice {
         log_notice(scribe, posted)?;

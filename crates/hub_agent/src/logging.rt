@@ -134,7 +134,8 @@ pub(crate) fn log_cast(
     outcomes: &[(EndId, CastOutcome)],
     body: &Body,
 ) -> Result<(), OutOfMemory>
-    ensures { OnOk result (WritesEntries (cast_entries body.now outcomes.now) scribe.old scribe.new) }
+    ensures { OnOk result (WritesEntries (cast_entries body.now outcomes.now)
+        scribe.old scribe.new) }
 {
     let mut refused = Ok(());
     for (_, outcome) in outcomes {
@@ -148,7 +149,8 @@ pub(crate) fn log_cast(
 
 /// Logs a post of a cast, where it was accepted.
 fn log_outcome(scribe: &mut Scribe, outcome: &CastOutcome, body: &Body) -> Result<(), OutOfMemory>
-    ensures { OnOk result (WritesEntries (outcome_entries body.now outcome.now) scribe.old scribe.new) }
+    ensures { OnOk result (WritesEntries (outcome_entries body.now outcome.now)
+        scribe.old scribe.new) }
 {
     match outcome {
         CastOutcome::Accepted(posted) => log_put(scribe, *posted, &[], body),

@@ -49,8 +49,8 @@ pub fn open_in<L: Lends<QueueList>, R: Wait>(
 /// Where agents find the queues of clients and workers, and where a queue waits that goes from one
 /// agent to another. Threads share it.
 ///
-/// `line_to` and `give_back` are the calls of that name on the `QueueList` behind the lock, under one
-/// taking of the lock. What is listed at that moment no contract of these calls can say, since
+/// `line_to` and `give_back` are the calls of that name on the `QueueList` behind the lock, under
+/// one taking of the lock. What is listed at that moment no contract of these calls can say, since
 /// another thread may act between any two of them.
 ///
 /// ```rust

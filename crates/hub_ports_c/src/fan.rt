@@ -4,8 +4,9 @@ ghost use Rattle.hub_fan.specs.declared.closing.FanDrained.TheVariants as draine
 ghost use Rattle.hub_fan.specs.declared.fan.FanTaken.TheVariants as taken;
 ghost use Rattle.hub_ports_c.specs.Handles.{At, HeldNo, OpensAs, OpensLineAt, SameHeld};
 ghost use Rattle.hub_ports_c.specs.Held.{is_fan_grave_in, is_fan_in};
-ghost use Rattle.hub_ports_c.specs.FanResources.{AtFan, AtFanGrave, ClosesFan, DrainsOf, FindsALine};
-ghost use Rattle.hub_ports_c.specs.FanResources.{FindsNoLine, IsDisabled, IsFull, IsNewFan, KeepsAll};
+ghost use Rattle.hub_ports_c.specs.FanResources.{AtFan, AtFanGrave, ClosesFan, DrainsOf};
+ghost use Rattle.hub_ports_c.specs.FanResources.{FindsALine, FindsNoLine, IsDisabled, IsFull};
+ghost use Rattle.hub_ports_c.specs.FanResources.{IsNewFan, KeepsAll};
 ghost use Rattle.hub_ports_c.specs.FanResources.{SameFan, Starts, TakesOf};
 
 use crate::handle::Handle;

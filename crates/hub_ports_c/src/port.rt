@@ -2,10 +2,10 @@
 ghost use Rattle.std.specs.Prelude.{◌≡◌, ◌⊎◌, None, false, true};
 ghost use Rattle.hub_ports_c.specs.Handles.{At, BothOpenAs, HeldNo, SameHeld};
 ghost use Rattle.hub_ports_c.specs.Held.{NamesChannel, is_grave_in, is_port_in};
-ghost use Rattle.hub_ports_c.specs.Resources.{AtPort, AtGrave, Becomes, ClosesPort, FindsNone, FindsSome};
-ghost use Rattle.hub_ports_c.specs.Resources.{HandsBack, HandsBackLast, HandsBackNone};
-ghost use Rattle.hub_ports_c.specs.Resources.{NewPeers, PostsMessage, PostsNothing, RefusesClosed, TakesMessage};
-ghost use Rattle.hub_ports_c.specs.Resources.{TakesLast, TakesNone, Waits};
+ghost use Rattle.hub_ports_c.specs.Resources.{AtPort, AtGrave, Becomes, ClosesPort, FindsNone};
+ghost use Rattle.hub_ports_c.specs.Resources.{FindsSome, HandsBack, HandsBackLast, HandsBackNone};
+ghost use Rattle.hub_ports_c.specs.Resources.{NewPeers, PostsMessage, PostsNothing, RefusesClosed};
+ghost use Rattle.hub_ports_c.specs.Resources.{TakesMessage, TakesLast, TakesNone, Waits};
 
 use crate::handle::Handle;
 use crate::resource::{Message, Resource};

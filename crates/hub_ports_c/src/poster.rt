@@ -2,7 +2,8 @@
 ghost use Rattle.std.specs.Prelude.{◌≡◌, ◌⊎◌, true, false};
 ghost use Rattle.hub_ports_c.specs.Handles.{At, HeldNo};
 ghost use Rattle.hub_ports_c.specs.Held.{GivesAway, is_poster_in};
-ghost use Rattle.hub_ports_c.specs.FanResources.{AtPoster, IsPoster, PostsNone, PostsToFan, RefusesOver};
+ghost use Rattle.hub_ports_c.specs.FanResources.{AtPoster, IsPoster, PostsNone, PostsToFan};
+ghost use Rattle.hub_ports_c.specs.FanResources.{RefusesOver};
 
 use crate::handle::Handle;
 use crate::resource::{Message, Resource};

@@ -46,11 +46,12 @@ pub(crate) fn looked(armed: Armed, old: &mut u64) -> u8
 
 impl Resource {
     ghost use Rattle.std.specs.Prelude.{◌≡◌, ◌⊎◌, true, false};
-    ghost use Rattle.hub_ports_c.specs.Resources.{is_open_port, is_closed_port, AtPort, AtGrave, ClosesPort};
-    ghost use Rattle.hub_ports_c.specs.Resources.{PostsMessage, PostsNothing, RefusesClosed, TakesMessage, TakesNone};
+    ghost use Rattle.hub_ports_c.specs.Resources.{is_open_port, is_closed_port, AtPort, AtGrave};
+    ghost use Rattle.hub_ports_c.specs.Resources.{ClosesPort, PostsMessage, PostsNothing};
+    ghost use Rattle.hub_ports_c.specs.Resources.{RefusesClosed, TakesMessage, TakesNone};
     ghost use Rattle.hub_ports_c.specs.Resources.{TakesLast, Waits};
-    ghost use Rattle.hub_ports_c.specs.Resources.{Becomes, FindsNone, FindsSome, HasName, HandsBack};
-    ghost use Rattle.hub_ports_c.specs.Resources.{HandsBackNone, HandsBackLast};
+    ghost use Rattle.hub_ports_c.specs.Resources.{Becomes, FindsNone, FindsSome, HasName};
+    ghost use Rattle.hub_ports_c.specs.Resources.{HandsBack, HandsBackNone, HandsBackLast};
 
     /// Posts a message.
     #[inline(always)]

@@ -10,8 +10,9 @@ impl Resource {
     ghost use Rattle.std.specs.Prelude.{◌≡◌, ◌⊎◌, false, true};
     ghost use Rattle.hub_fan.specs.declared.closing.FanDrained.TheVariants as drained;
     ghost use Rattle.hub_fan.specs.declared.fan.FanTaken.TheVariants as taken;
-    ghost use Rattle.hub_ports_c.specs.FanResources.{AtFan, AtFanGrave, AtPoster, ClosesFan, DrainsOf};
-    ghost use Rattle.hub_ports_c.specs.FanResources.{FindsALine, FindsNoLine, IsDisabled, IsFull};
+    ghost use Rattle.hub_ports_c.specs.FanResources.{AtFan, AtFanGrave, AtPoster, ClosesFan};
+    ghost use Rattle.hub_ports_c.specs.FanResources.{DrainsOf, FindsALine, FindsNoLine, IsDisabled};
+    ghost use Rattle.hub_ports_c.specs.FanResources.{IsFull};
     ghost use Rattle.hub_ports_c.specs.FanResources.{IsPoster};
     ghost use Rattle.hub_ports_c.specs.FanResources.{KeepsAll, OpensLine, PostsNone, PostsToFan};
     ghost use Rattle.hub_ports_c.specs.FanResources.{RefusesOver, SameFan, Starts, TakesOf};

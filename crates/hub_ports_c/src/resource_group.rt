@@ -10,8 +10,8 @@ impl Resource {
     ghost use Rattle.std.specs.Prelude.{◌≡◌, ◌⊎◌, false, length};
     ghost use Rattle.hub_ports_c.specs.FanResources.{is_poster};
     ghost use Rattle.hub_ports_c.specs.GroupResources.{AtGroup, CastsAll, Counts, HasNoMember};
-    ghost use Rattle.hub_ports_c.specs.GroupResources.{IsCrowded, JoinsGroup, LeavesGroup, SameGroup};
-    ghost use Rattle.hub_ports_c.specs.GroupResources.{is_group};
+    ghost use Rattle.hub_ports_c.specs.GroupResources.{IsCrowded, JoinsGroup, LeavesGroup};
+    ghost use Rattle.hub_ports_c.specs.GroupResources.{SameGroup, is_group};
 
     /// Makes who takes from a poster's line the last member of a group, which has the poster then.
     pub(crate) fn join(&mut self, poster: &mut Resource, member: &mut u64) -> u8

@@ -253,7 +253,8 @@ impl<'s, C: Checkpoint> Made<'s, C> {
         script: &Script,
         checkpoint: &'s C,
     ) -> Result<Made<'s, C>, OutOfMemory>
-        ensures len { IfOk result (λ made. vec_len made.agents ≡ length (declared_agents script.now)) }
+        ensures len { IfOk result (λ made.
+            vec_len made.agents ≡ length (declared_agents script.now)) }
         ensures nothing { IfOk result (λ made. HaveNothing made.agents.items) }
         ensures seated { IfOk result (λ made. AreAllSeated made.agents.items) }
         ensures drawn { IfOk result (λ made. made.ends.drawn ≡ 0) }
@@ -319,7 +320,8 @@ impl<'s, C: Checkpoint> Made<'s, C> {
         roster: &SharedRoster,
         script: &Script,
     ) -> Result<(), OutOfMemory>
-        requires { self.old.ends.drawn ≡ length (declared_agents script.now) + port_count script.now }
+        requires { self.old.ends.drawn
+            ≡ length (declared_agents script.now) + port_count script.now }
         ensures given { OnOk result (Gives (members_given script.now)
             self.old.agents.items self.new.agents.items) }
     {
@@ -342,7 +344,8 @@ impl<'s, C: Checkpoint> Made<'s, C> {
         script: &Script,
         checkpoint: &'s C,
     ) -> Result<Made<'s, C>, OutOfMemory>
-        ensures len { IfOk result (λ made. vec_len made.agents ≡ length (declared_agents script.now)) }
+        ensures len { IfOk result (λ made.
+            vec_len made.agents ≡ length (declared_agents script.now)) }
         ensures given { IfOk result (λ made. AreGiven script.now made.agents.items) }
         ensures seated { IfOk result (λ made. AreAllSeated made.agents.items) }
     {

@@ -1,6 +1,7 @@
 ghost use Rattle.std.specs.Prelude.{◌≡◌, ◌<◌, ◌≤◌, [], length, OnOk};
-ghost use Rattle.hub_script.specs.Contents.{IsWithinLimits, actions, declared_agents, channels, line_count};
-ghost use Rattle.hub_script.specs.Contents.{members, with_action, with_declared, with_channel};
+ghost use Rattle.hub_script.specs.Contents.{IsWithinLimits, actions, declared_agents, channels};
+ghost use Rattle.hub_script.specs.Contents.{line_count, members, with_action, with_declared};
+ghost use Rattle.hub_script.specs.Contents.{with_channel};
 ghost use Rattle.hub_script.specs.Contents.{with_member};
 ghost use Rattle.hub_script.specs.Laws.{ClosesHeld, NoScript, NoneAccepted, OneFault, OneRefusal};
 ghost use Rattle.hub_script.specs.Laws.{PostsHeld, SendsHeld, StartsHeld};

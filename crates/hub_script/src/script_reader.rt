@@ -1,14 +1,17 @@
 ghost use Rattle.std.specs.Prelude.{◌≡◌, ◌<◌, ◌≤◌, [], length, map, nat_lt, IfOk, Ok};
 ghost use Rattle.hub_text.specs.Reading.{IsReadAs};
-ghost use Rattle.hub_script.specs.Contents.{actions, declared_agents, line_count, with_declared, with_channel};
-ghost use Rattle.hub_script.specs.Contents.{with_member};
-ghost use Rattle.hub_script.specs.Context.{acting, agent_of, declared_ends, has_agent, has_no_action};
-ghost use Rattle.hub_script.specs.Context.{has_room, is_agent, is_unused, holds_named, is_member};
+ghost use Rattle.hub_script.specs.Contents.{actions, declared_agents, line_count, with_declared};
+ghost use Rattle.hub_script.specs.Contents.{with_channel, with_member};
+ghost use Rattle.hub_script.specs.Context.{acting, agent_of, declared_ends, has_agent};
+ghost use Rattle.hub_script.specs.Context.{has_no_action, has_room, is_agent, is_unused};
+ghost use Rattle.hub_script.specs.Context.{holds_named, is_member};
 ghost use Rattle.hub_script.specs.Context.{is_port, named_end};
 ghost use Rattle.hub_script.specs.Fields.{IsRead};
-ghost use Rattle.hub_script.specs.Known.{declaring, declared_end, giving, giving_all, holding, naming_more};
-ghost use Rattle.hub_script.specs.Known.{next_member, next_port, nothing, queue_of, second_port};
-ghost use Rattle.hub_script.specs.Known.{taking_more, with_handed, with_holds, with_names, with_script};
+ghost use Rattle.hub_script.specs.Known.{declaring, declared_end, giving, giving_all, holding};
+ghost use Rattle.hub_script.specs.Known.{naming_more, next_member, next_port, nothing, queue_of};
+ghost use Rattle.hub_script.specs.Known.{second_port};
+ghost use Rattle.hub_script.specs.Known.{taking_more, with_handed, with_holds, with_names};
+ghost use Rattle.hub_script.specs.Known.{with_script};
 
 use crate::action::{Action, ActionKind};
 use crate::error::ScriptError;

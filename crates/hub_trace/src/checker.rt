@@ -6,11 +6,12 @@ ghost use Rattle.std.specs.List.{list_any};
 ghost use Rattle.hub_trace.specs.Accepted.{accepted};
 ghost use Rattle.hub_trace.specs.Got.{got};
 ghost use Rattle.hub_trace.specs.Clean.{IsClean, IsCleanLine};
-ghost use Rattle.hub_trace.specs.Fault.{IsFirstFault, IsRight, is_name_of, has_notice, names_delivery};
-ghost use Rattle.hub_trace.specs.Fault.{kind_at};
+ghost use Rattle.hub_trace.specs.Fault.{IsFirstFault, IsRight, is_name_of, has_notice};
+ghost use Rattle.hub_trace.specs.Fault.{names_delivery, kind_at};
 ghost use Rattle.hub_trace.specs.Verdict.{IsVerdict};
 ghost use Rattle.hub_trace.specs.declared.verdict.Verdict.TheVariants.{Clean};
-ghost use Rattle.hub_trace.specs.Views.{RisesByLine, accepted_in, delivery_of, got_among, receipt_of};
+ghost use Rattle.hub_trace.specs.Views.{RisesByLine, accepted_in, delivery_of, got_among};
+ghost use Rattle.hub_trace.specs.Views.{receipt_of};
 
 use crate::accepted::{AcceptedEnvelope, accepted_in_order, accepted_of};
 use crate::log::Log;

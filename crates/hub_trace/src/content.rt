@@ -2,7 +2,7 @@ ghost use Rattle.std.specs.Prelude.{◌≡◌, ◌↔◌, IsTrue, Some};
 ghost use Rattle.hub_trace.specs.Content.{is_notice};
 ghost use Rattle.hub_trace.specs.Text.{content_text};
 
-use crate::message::Payload;
+use crate::payload::Payload;
 use hub_text::EndListText;
 use std::fmt;
 

@@ -10,7 +10,7 @@ ghost use Rattle.hub_trace.specs.Text.{log_text};
 
 use crate::content::Content;
 use crate::log_entry::{Delivery, LogEntry};
-use crate::message::Payload;
+use crate::payload::Payload;
 use hub_envelope::{AgentId, Body, EndId, OutOfMemory, Posted};
 use std::alloc::Global;
 use std::fmt;

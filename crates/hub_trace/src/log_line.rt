@@ -19,7 +19,7 @@ use crate::error::LogError;
 use crate::limits::{MAX_AGENT, MAX_END, MAX_EPOCH, MAX_NUMBER, is_port_list};
 use crate::log_entry::{Delivery, LogEntry};
 use crate::log_version::LogVersion;
-use crate::message::Payload;
+use crate::payload::Payload;
 use hub_envelope::{AgentId, Body, BodyError, EndId, Items, LineId, Posted};
 use hub_text::{cut_at, next_word, number_of, read_ends};
 use std::alloc::Global;
