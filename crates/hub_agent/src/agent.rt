@@ -27,6 +27,7 @@ use hub_life::{Life, Order};
 use hub_locked::Lends;
 use hub_logging::Scribe;
 use hub_loop::{Checkpoint, EventLoop, Held, LoopError, Turn};
+use hub_ports::Closings;
 use hub_queue::{Grave, Steps};
 use hub_script::Script;
 use hub_trace::Log;
@@ -64,6 +65,9 @@ pub struct Agent<'s, C: Checkpoint, K: Lends<Roster> + Drop> {
     pub(crate) life: Option<Life>,
     /// The ends that it has closed by an action, and not swept yet.
     pub(crate) graves: Vec<Grave>,
+    /// What the last doomed post has closed. It stands here since it is large, and each post lends
+    /// it.
+    pub(crate) closings: Closings,
 }
 
 // By hand, so that whoever drops one makes one call, and its proof has no cases of its fields.
@@ -79,6 +83,7 @@ impl<'s, C: Checkpoint, K: Lends<Roster> + Drop> Drop for Agent<'s, C, K> {
             peers,
             life: _,
             graves,
+            closings,
         } = self;
         drop(roster);
         drop(event_loop);
@@ -86,6 +91,7 @@ impl<'s, C: Checkpoint, K: Lends<Roster> + Drop> Drop for Agent<'s, C, K> {
         drop(order);
         drop(peers);
         drop(graves);
+        drop(closings);
     }
 }
 

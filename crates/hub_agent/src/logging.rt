@@ -10,6 +10,8 @@ ghost use Rattle.hub_agent.specs.Entries.{
   doomed_entries,
   outcome_entries,
 };
+ghost use Rattle.hub_ports.specs.Refusing.{answer_of};
+ghost use Rattle.hub_ports.specs.declared.parcel.Parcel.{Parcel};
 ghost use Rattle.hub_trace.specs.Accepted.{message_at, notice_at};
 ghost use Rattle.hub_trace.specs.declared.log_entry.LogEntry.TheVariants.{Adopted, Closed, Put};
 
@@ -17,7 +19,7 @@ use hub_broadcast::CastOutcome;
 use hub_envelope::{Body, EndId, OutOfMemory};
 use hub_logging::Scribe;
 use hub_loop::{ClosedPort, Held};
-use hub_ports::{Closing, Noticed, PortError};
+use hub_ports::{Closing, Closings, Noticed, SendRefusal};
 use hub_queue::Posted;
 
 /// Logs a post that was accepted.
@@ -113,17 +115,18 @@ fn log_doomed(scribe: &mut Scribe, closings: &[Closing]) -> Result<(), OutOfMemo
 /// for want of memory is an error.
 pub(crate) fn log_answer(
     scribe: &mut Scribe,
-    answer: &Result<Posted, PortError>,
+    answer: Result<Posted, SendRefusal>,
+    closings: &Closings,
     ports: &[EndId],
     body: &Body,
 ) -> Result<(), OutOfMemory>
-    ensures { OnOk result (WritesEntries (answer_entries ports.now body.now answer.now)
-        scribe.old scribe.new) }
+    ensures { (parcel : Parcel) → OnOk result (WritesEntries (answer_entries ports.now body.now
+        (answer_of answer parcel closings.now)) scribe.old scribe.new) }
 {
     match answer {
-        Ok(posted) => log_put(scribe, *posted, ports, body),
-        Err(PortError::Doomed(closings)) => log_doomed(scribe, closings.as_slice()),
-        Err(PortError::OutOfMemory(..)) => Err(OutOfMemory),
+        Ok(posted) => log_put(scribe, posted, ports, body),
+        Err(SendRefusal::Doomed) => log_doomed(scribe, closings.as_slice()),
+        Err(SendRefusal::OutOfMemory) => Err(OutOfMemory),
         Err(_) => Ok(()),
     }
 }

@@ -12,6 +12,7 @@ use hub_life::{Life, Order};
 use hub_locked::Lends;
 use hub_logging::Scribe;
 use hub_loop::{Checkpoint, EventLoop, Held};
+use hub_ports::Closings;
 use hub_queue::Listener;
 use hub_script::AgentKind;
 use std::alloc::Global;
@@ -75,6 +76,7 @@ impl<'s, C: Checkpoint, K: Lends<Roster> + Drop> Agent<'s, C, K> {
             peers,
             life: life_of(kind),
             graves: Vec::new(alloc),
+            closings: Closings::none(),
         })
     }
 

@@ -1,9 +1,11 @@
 //! The actions that post: at a port, at a queue, from a broadcast member.
 
-ghost use Rattle.std.specs.Prelude.{◌≡◌, ◌≢◌, List, false, IfErr, IfOk, IfSome, IfNone, OnOk};
+ghost use Rattle.std.specs.Prelude.{◌≡◌, ◌≢◌, List, false, IfErr, IfOk, IfSome, IfNone, IsSome};
+ghost use Rattle.std.specs.Prelude.{OnOk};
 ghost use Rattle.hub_loop.specs.Adopting.{HoldsMore};
 ghost use Rattle.hub_loop.specs.Looking.{HoldsNoLine};
 ghost use Rattle.hub_loop.specs.declared.held.Held.TheVariants.{Port as PortHeld};
+ghost use Rattle.hub_ports.specs.Refusing.{answer_of, body_in};
 ghost use Rattle.hub_ports.specs.Seats.{PortSeat, ends_of};
 ghost use Rattle.hub_agent.specs.Agents.{CastsFrom, KeepsButCasts, KeepsButEnds, KeepsElse};
 ghost use Rattle.hub_agent.specs.Entries.{IsCastLogged, WritesEntries};
@@ -31,7 +33,7 @@ use hub_envelope::{AgentId, Body, EndId, OutOfMemory, Ports};
 use hub_locked::Lends;
 use hub_logging::Scribe;
 use hub_loop::{Checkpoint, Held, LoopError, Way};
-use hub_ports::{Hub, Port, PortError};
+use hub_ports::{Closings, Hub, Parcel, Port, SendRefusal};
 use hub_queue::{Grave, Onward, Posted};
 use std::alloc::Global;
 use std::sync::Wait;
@@ -45,17 +47,21 @@ fn post_over<C: Checkpoint, R: Wait>(
     hub: &Hub,
     agent: AgentId,
     way: Way,
-    body: Body,
-    ports: Vec<Port>,
-) -> Result<Posted, PortError>
-    ensures sent { SendsOrReturns way agent body ports
-        event_loop.old.holding.held event_loop.new.holding.held result }
+    parcel: &mut Parcel,
+    closings: &mut Closings,
+) -> Result<Posted, SendRefusal>
+    requires { IsSome parcel.old.body }
+    ensures sent { SendsOrReturns way agent (body_in parcel.old) parcel.old.ports
+        event_loop.old.holding.held event_loop.new.holding.held
+        (answer_of result parcel.new closings.new) }
+    ensures back { parcel.new.ports.items
+        ≡ given_back (answer_of result parcel.new closings.new) }
     ensures rest { event_loop.new
         ≡ record event_loop.old { holding = event_loop.new.holding } }
 {
-    match event_loop.post(rt, hub, agent, way, body, ports) {
-        Ok(answer) => answer,
-        Err((body, ports)) => Err(PortError::Closed(body, ports)),
+    match event_loop.post(rt, hub, agent, way, parcel, closings) {
+        Some(answer) => answer,
+        None => Err(SendRefusal::Closed),
     }
 }
 
@@ -71,22 +77,6 @@ fn port_in(held: Held) -> Result<Port, Held>
         Held::Worker(queue) => Err(Held::Worker(queue)),
         Held::Member(member) => Err(Held::Member(member)),
         Held::Line(line) => Err(Held::Line(line)),
-    }
-}
-
-/// The ports that come back with the answer to a post.
-fn ports_back(alloc: Global, answer: Result<Posted, PortError>) -> Vec<Port>
-    ensures { result.items ≡ given_back answer }
-{
-    match answer {
-        Ok(_) => Vec::new(alloc),
-        Err(PortError::Doomed(_)) => Vec::new(alloc),
-        Err(PortError::OutOfMemory(_, ports)) => ports,
-        Err(PortError::Closed(_, ports)) => ports,
-        Err(PortError::Moving(_, ports)) => ports,
-        Err(PortError::TooManyPorts(_, ports)) => ports,
-        Err(PortError::Taken(_, ports)) => ports,
-        Err(PortError::Strayed(_, _, ports)) => ports,
     }
 }
 
@@ -183,11 +173,14 @@ impl<'s, C: Checkpoint, K: Lends<Roster> + Drop> Agent<'s, C, K> {
         let Some(ports) = self.release_ports(rt, transfer.as_slice())? else {
             return Ok(());
         };
+        let mut parcel = Parcel::new(self.alloc, copy, ports);
         let agent = self.scribe.agent();
-        let hub = &self.shared.hub;
-        let answer = post_over(&mut self.event_loop, rt, hub, agent, way, copy, ports);
-        let logged = log_answer(&mut self.scribe, &answer, transfer.as_slice(), body);
-        let back = ports_back(self.alloc, answer);
+        let (hub, closings) = (&self.shared.hub, &mut self.closings);
+        let event_loop = &mut self.event_loop;
+        let answer = post_over(event_loop, rt, hub, agent, way, &mut parcel, closings);
+        let sent = transfer.as_slice();
+        let logged = log_answer(&mut self.scribe, answer, &self.closings, sent, body);
+        let Parcel { ports: back, .. } = parcel;
         self.hold_ports(rt, back)?;
         logged
     }

@@ -1,16 +1,17 @@
 //! Posts from what a loop holds.
 
-ghost use Rattle.std.specs.Prelude.{◌≡◌, None, IfErr, IfOk};
+ghost use Rattle.std.specs.Prelude.{◌≡◌, None, IfNone, IfSome, IsSome};
 ghost use Rattle.hub_loop.specs.Holding.{stand_held};
 ghost use Rattle.hub_loop.specs.Looking.{IsFound, IsWay, LacksWay};
 ghost use Rattle.hub_loop.specs.Posting.{IsPostedOver, PostsThrough};
+ghost use Rattle.hub_ports.specs.Refusing.{LeavesIn, answer_of, body_in};
 
 use crate::ends::HeldEnds;
 use crate::event_loop::EventLoop;
 use crate::handler::{Checkpoint, Handler};
 use crate::held::{Held, Sought};
-use hub_envelope::{AgentId, Body, EndId};
-use hub_ports::{Hub, Port, PortError, send};
+use hub_envelope::{AgentId, EndId};
+use hub_ports::{Closings, Hub, Parcel, SendRefusal, send_parcel};
 use hub_queue::Posted;
 use std::sync::Wait;
 
@@ -23,11 +24,9 @@ pub enum Way {
     Line(EndId),
 }
 
-/// What a post came to, or what was to be posted where nothing is held to post it from.
-pub type FromHeld = Result<Result<Posted, PortError>, (Body, Vec<Port>)>;
+/// What a post came to. `None` where nothing is held to post it from.
+pub type FromHeld = Option<Result<Posted, SendRefusal>>;
 
-// The calls are inlined, as those of a port, since the answer has room for the closings of a whole
-// list and each return would copy it.
 impl Held {
     /// Posts over a port or a line.
     #[inline(always)]
@@ -36,18 +35,21 @@ impl Held {
         rt: &R,
         hub: &Hub,
         agent: AgentId,
-        body: Body,
-        transfer: Vec<Port>,
+        parcel: &mut Parcel,
+        closings: &mut Closings,
     ) -> FromHeld
-        ensures posted { IfOk result (IsPostedOver agent body transfer.items self.old self.new) }
-        ensures other { IfErr result (λ _. stand_held self.old ≡ None) }
-        ensures same { IfErr result (λ _. self.new ≡ self.old) }
-        ensures back { IfErr result (λ back. (back.0 ≡ body) × (back.1 ≡ transfer)) }
+        requires { IsSome parcel.old.body }
+        ensures posted { IfSome result (λ answer. IsPostedOver agent (body_in parcel.old)
+            parcel.old.ports.items self.old self.new (answer_of answer parcel.new closings.new)) }
+        ensures left { IfSome result (λ answer. LeavesIn answer parcel.old parcel.new) }
+        ensures other { IfNone result (stand_held self.old ≡ None) }
+        ensures same { IfNone result (self.new ≡ self.old) }
+        ensures back { IfNone result (parcel.new ≡ parcel.old) }
     {
         match self {
-            Held::Port(port) => Ok(port.post(rt, hub, agent, body, transfer)),
-            Held::Line(line) => Ok(send(line, rt, hub, agent, body, transfer)),
-            _ => Err((body, transfer)),
+            Held::Port(port) => Some(port.post_parcel(rt, hub, agent, parcel, closings)),
+            Held::Line(line) => Some(send_parcel(line, rt, hub, agent, parcel, closings)),
+            _ => None,
         }
     }
 }
@@ -71,30 +73,30 @@ impl HeldEnds {
         hub: &Hub,
         agent: AgentId,
         way: Way,
-        body: Body,
-        transfer: Vec<Port>,
+        parcel: &mut Parcel,
+        closings: &mut Closings,
     ) -> FromHeld
-        ensures posted { IfOk result
-            (PostsThrough agent body transfer.items way self.old.held self.new.held) }
-        ensures missing { IfErr result (λ _. LacksWay way self.old.held) }
-        ensures same { IfErr result (λ _. self.new.held ≡ self.old.held) }
-        ensures back { IfErr result (λ back. (back.0 ≡ body) × (back.1 ≡ transfer)) }
+        requires { IsSome parcel.old.body }
+        ensures posted { IfSome result (λ answer. PostsThrough agent (body_in parcel.old)
+            parcel.old.ports.items way self.old.held self.new.held
+            (answer_of answer parcel.new closings.new)) }
+        ensures left { IfSome result (λ answer. LeavesIn answer parcel.old parcel.new) }
+        ensures missing { IfNone result (LacksWay way self.old.held) }
+        ensures same { IfNone result (self.new.held ≡ self.old.held) }
+        ensures back { IfNone result (parcel.new ≡ parcel.old) }
         ensures next { self.new.next ≡ self.old.next }
     {
-        let Some(key) = self.find_way(way) else {
-            return Err((body, transfer));
-        };
-        match self.held.get_mut(key) {
-            Some(held) => held.post(rt, hub, agent, body, transfer),
-            None => Err((body, transfer)),
-        }
+        let key = self.find_way(way)?;
+        self.held
+            .get_mut(key)?
+            .post(rt, hub, agent, parcel, closings)
     }
 }
 
 impl<H: Handler + Drop, C: Checkpoint + Drop> EventLoop<H, C> {
-    /// Posts a body with ports that are sent along: over a port as `Port::post` does, over a line
-    /// as `hub_ports::send` does. `Err` where the loop doesn't hold that port or a line to that
-    /// end: what was to be posted comes back.
+    /// Posts a body with ports that are sent along: over a port as `Port::post_parcel` does, over a
+    /// line as `hub_ports::send_parcel` does. `None` where the loop doesn't hold that port or a
+    /// line to that end: then the parcel is as it was.
     #[inline(always)]
     pub fn post<R: Wait>(
         &mut self,
@@ -102,18 +104,22 @@ impl<H: Handler + Drop, C: Checkpoint + Drop> EventLoop<H, C> {
         hub: &Hub,
         agent: AgentId,
         way: Way,
-        body: Body,
-        transfer: Vec<Port>,
+        parcel: &mut Parcel,
+        closings: &mut Closings,
     ) -> FromHeld
-        ensures posted { IfOk result (PostsThrough agent body transfer.items way
-            self.old.holding.held self.new.holding.held) }
-        ensures missing { IfErr result (λ _. LacksWay way self.old.holding.held) }
-        ensures held { IfErr result (λ _. self.new.holding.held ≡ self.old.holding.held) }
-        ensures back { IfErr result (λ back. (back.0 ≡ body) × (back.1 ≡ transfer)) }
+        requires { IsSome parcel.old.body }
+        ensures posted { IfSome result (λ answer. PostsThrough agent (body_in parcel.old)
+            parcel.old.ports.items way self.old.holding.held self.new.holding.held
+            (answer_of answer parcel.new closings.new)) }
+        ensures left { IfSome result (λ answer. LeavesIn answer parcel.old parcel.new) }
+        ensures missing { IfNone result (LacksWay way self.old.holding.held) }
+        ensures held { IfNone result (self.new.holding.held ≡ self.old.holding.held) }
+        ensures back { IfNone result (parcel.new ≡ parcel.old) }
         ensures same { (self.new.holding.next ≡ self.old.holding.next)
             × (self.new.holding.closed ≡ self.old.holding.closed) }
         ensures rest { self.new ≡ record self.old { holding = self.new.holding } }
     {
-        self.holding.ends.post(rt, hub, agent, way, body, transfer)
+        let ends = &mut self.holding.ends;
+        ends.post(rt, hub, agent, way, parcel, closings)
     }
 }

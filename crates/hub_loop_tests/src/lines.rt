@@ -3,7 +3,7 @@ use crate::left::is_left;
 use crate::parts::{Shared, holds, is_idle, open};
 use hub_envelope::{AgentId, EndId};
 use hub_loop::{Held, Way};
-use hub_ports::{Hub, channel};
+use hub_ports::{Closings, Hub, Parcel, channel};
 use hub_queue::{Bell, Ends, Mailbox, Poster};
 use hub_test_parts::{Loop, body};
 use std::alloc::Global;
@@ -19,19 +19,14 @@ fn strange_line(alloc: Global, bell: Bell) -> Option<Poster> {
 /// Posts over the line of that number, and no end of the loop gets it.
 fn sends<R: Wait>(rt: &R, alloc: Global, hub: &Hub, event_loop: &mut Loop) -> Option<bool> {
     let body = body(alloc, "2")?;
-    let sent = event_loop.post(
-        rt,
-        hub,
-        AgentId(0),
-        Way::Line(EndId(1)),
-        body,
-        Vec::new(alloc),
-    );
-    let is_accepted = match &sent {
-        Ok(Ok(posted)) => posted.epoch == 0 && posted.number == 0,
+    let mut parcel = Parcel::new(alloc, body, Vec::new(alloc));
+    let (way, mut closings) = (Way::Line(EndId(1)), Closings::none());
+    let sent = event_loop.post(rt, hub, AgentId(0), way, &mut parcel, &mut closings);
+    drop(parcel);
+    let is_accepted = match sent {
+        Some(Ok(posted)) => posted.epoch == 0 && posted.number == 0,
         _ => false,
     };
-    drop(sent);
     Some(is_accepted && is_idle(rt, hub, event_loop, false))
 }
 

@@ -5,7 +5,7 @@ use hub_clients::Directory;
 use hub_envelope::{AgentId, EndId, Envelope};
 use hub_life::Order;
 use hub_loop::{Held, Turn, Way};
-use hub_ports::{Hub, Port, PortError};
+use hub_ports::{Closings, Hub, Parcel, Port, SendRefusal};
 use hub_queue::{Bell, Listener};
 use hub_test_parts::{Delivered, Loop, body, is_message, open_loop, release_port, turn};
 use std::alloc::Global;
@@ -136,24 +136,14 @@ pub(crate) fn post_port<R: Wait>(
 ) -> Option<Answer> {
     let body = body(shared.alloc, text)?;
     let transfer = sent_along(shared.alloc, event_loop, sent)?;
-    match event_loop.post(
-        rt,
-        &shared.hub,
-        AgentId(0),
-        Way::Port(EndId(end)),
-        body,
-        transfer,
-    ) {
-        Ok(Ok(posted)) => Some(Answer::Accepted(posted.epoch, posted.number)),
-        Ok(Err(PortError::Closed(body, back))) => {
-            drop(body);
-            drop(back);
-            Some(Answer::Closed)
-        }
-        other => {
-            drop(other);
-            None
-        }
+    let (mut parcel, mut closings) = (Parcel::new(shared.alloc, body, transfer), Closings::none());
+    let (hub, way) = (&shared.hub, Way::Port(EndId(end)));
+    let answer = event_loop.post(rt, hub, AgentId(0), way, &mut parcel, &mut closings);
+    drop(parcel);
+    match answer? {
+        Ok(posted) => Some(Answer::Accepted(posted.epoch, posted.number)),
+        Err(SendRefusal::Closed) => Some(Answer::Closed),
+        Err(_) => None,
     }
 }
 

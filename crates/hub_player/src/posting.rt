@@ -1,5 +1,7 @@
 //! Posts, with the ports that are sent along.
 
+ghost use Rattle.std.specs.Prelude.{IsSome};
+
 use crate::agent::{hold, loop_of};
 use crate::lines::Lent;
 use crate::player::{Player, Standing, Stop, answer, not_now};
@@ -7,11 +9,20 @@ use crate::seat::{Kind, Place};
 use hub_core::{Acceptance, Outcome};
 use hub_envelope::{AgentId, Body, EndId, Items, LineId, MAX_PORTS};
 use hub_loop::{Held, Way};
-use hub_ports::{Closings, Port, PortError, send};
+use hub_ports::{Closings, Parcel, Port, SendRefusal, send_parcel};
 use hub_queue::Posted;
 use hub_steps::Shown;
 use hub_test_parts::release_port;
 use std::sync::Wait;
+
+/// What a post shows that was accepted.
+fn accepted(agent: AgentId, posted: Posted) -> Result<Shown, Stop> {
+    answer(Outcome::Accepted(Acceptance {
+        agent,
+        epoch: posted.epoch,
+        number: posted.number,
+    }))
+}
 
 impl Player {
     /// Whether these are different ports that the agent has, and none is the one that posts.
@@ -112,9 +123,15 @@ impl Player {
         let Some(event_loop) = loop_of(&mut self.agents, agent) else {
             return Err(Stop::Unexpected);
         };
-        match event_loop.post(rt, &self.hub, agent, Way::Port(port), body, transfer) {
-            Ok(posted) => self.told(agent, ports.as_slice(), posted),
-            Err(_) => Err(Stop::Unexpected),
+        let (mut parcel, mut closings) = (
+            Parcel::new(self.alloc, body, transfer),
+            Closings::none(),
+        );
+        let (way, lent) = (Way::Port(port), &mut parcel);
+        match event_loop.post(rt, &self.hub, agent, way, lent, &mut closings) {
+            Some(Ok(posted)) => accepted(agent, posted),
+            Some(Err(refusal)) => self.refused(agent, ports.as_slice(), refusal, parcel, &closings),
+            None => Err(Stop::Unexpected),
         }
     }
 
@@ -139,49 +156,54 @@ impl Player {
         let Some(transfer) = self.listed(agent, None, ports.as_slice())? else {
             return not_now();
         };
-        let list = ports.as_slice();
-        let Some(Lent { poster, .. }) = self.lent.get_mut(place) else {
-            return Err(Stop::Unexpected);
-        };
-        if let Some(poster) = poster {
-            let posted = send(poster, rt, &self.hub, agent, body, transfer);
-            return self.told(agent, list, posted);
-        }
-        let Some(event_loop) = loop_of(&mut self.agents, agent) else {
-            return Err(Stop::Unexpected);
-        };
-        match event_loop.post(rt, &self.hub, agent, Way::Line(end), body, transfer) {
-            Ok(posted) => self.told(agent, list, posted),
-            Err(_) => Err(Stop::Unexpected),
+        let (mut parcel, mut closings) = (
+            Parcel::new(self.alloc, body, transfer),
+            Closings::none(),
+        );
+        let posted = self.post_lent(rt, place, agent, &mut parcel, &mut closings);
+        match posted {
+            Some(Ok(posted)) => accepted(agent, posted),
+            Some(Err(refusal)) => self.refused(agent, ports.as_slice(), refusal, parcel, &closings),
+            None => Err(Stop::Unexpected),
         }
     }
 
-    /// What a post shows.
-    fn told(
+    /// Posts over a line that the player has, or that the loop of the agent holds.
+    fn post_lent<R: Wait>(
+        &mut self,
+        rt: &R,
+        place: usize,
+        agent: AgentId,
+        parcel: &mut Parcel,
+        closings: &mut Closings,
+    ) -> Option<Result<Posted, SendRefusal>>
+        requires { IsSome parcel.old.body }
+    {
+        let lent = self.lent.get_mut(place)?;
+        if let Some(poster) = &mut lent.poster {
+            return Some(send_parcel(poster, rt, &self.hub, agent, parcel, closings));
+        }
+        let way = Way::Line(lent.end);
+        loop_of(&mut self.agents, agent)?.post(rt, &self.hub, agent, way, parcel, closings)
+    }
+
+    /// What a post shows that was refused: the ports that came back are the agent's again.
+    fn refused(
         &mut self,
         agent: AgentId,
         list: &[EndId],
-        posted: Result<Posted, PortError>,
+        refusal: SendRefusal,
+        parcel: Parcel,
+        closings: &Closings,
     ) -> Result<Shown, Stop> {
-        let error = match posted {
-            Ok(posted) => {
-                return answer(Outcome::Accepted(Acceptance {
-                    agent,
-                    epoch: posted.epoch,
-                    number: posted.number,
-                }));
-            }
-            Err(error) => error,
-        };
-        match error {
-            PortError::Closed(_, back) => self.put_back(agent, back, answer(Outcome::Closed)),
-            PortError::Moving(_, back) => self.put_back(agent, back, Ok(Shown::Moving)),
-            PortError::TooManyPorts(_, back) => {
-                self.put_back(agent, back, answer(Outcome::TooManyPorts))
-            }
-            PortError::Doomed(closings) => self.doomed(list, &closings),
-            PortError::OutOfMemory(_, back) => self.put_back(agent, back, Err(Stop::OutOfMemory)),
-            PortError::Strayed(_, _, _) | PortError::Taken(_, _) => Err(Stop::Unexpected),
+        let Parcel { ports: back, .. } = parcel;
+        match refusal {
+            SendRefusal::Closed => self.put_back(agent, back, answer(Outcome::Closed)),
+            SendRefusal::Moving => self.put_back(agent, back, Ok(Shown::Moving)),
+            SendRefusal::TooManyPorts => self.put_back(agent, back, answer(Outcome::TooManyPorts)),
+            SendRefusal::Doomed => self.doomed(list, closings),
+            SendRefusal::OutOfMemory => self.put_back(agent, back, Err(Stop::OutOfMemory)),
+            SendRefusal::Strayed | SendRefusal::Taken => Err(Stop::Unexpected),
         }
     }
 

@@ -1,22 +1,24 @@
 -- Ports are put in flight one after another, and come back in the other order.
-use Rattle.std.proofs.Common.{◌≡◌, ℕ, Vec, suc, ◌+◌, ◌<◌, ◌≤◌, Bool, cond, List, [], ◌∷◌, ◌++◌, length, drop, get_or, refl, ap, ◌∙◌, sym, subst, append_assoc, append-nil, option_map, Option, Some, None, IfSome}
+use Rattle.std.proofs.Common.{◌≡◌, ℕ, suc, ◌+◌, ◌<◌, ◌≤◌, Bool, cond, List, [], ◌∷◌, ◌++◌, length, drop, get_or, refl, ap, ◌∙◌, sym, subst, append_assoc, append-nil, option_map, Option, Some, None, IfSome}
 use Rattle.std.specs.FinMap as map
 use Rattle.std.specs.FinMap.{get-insert}
 use Rattle.std.proofs.Math.ListN.{drop_of_length-le}
 use Rattle.std.proofs.Math.Seq.{drop-append_seam}
 use Rattle.std.proofs.lemmas.List.{drop_more, map-append}
-use Rattle.std.specs.declared.alloc.Global.{Global}
 use Rattle.std.specs.Cmp.{eq_by_cmp_equiv}
 use Rattle.hub_depot.specs.declared.kept.Key.{Key}
 use Rattle.hub_depot.proofs.Keys.{keys_total}
 use Rattle.hub_depot.proofs.ManyPut.{remove-insert}
 use Rattle.hub_envelope.specs.declared.ids.EndId.{EndId}
 use Rattle.hub_ports.specs.Arriving.{Flight}
-use Rattle.hub_ports.specs.declared.error.PortError.{PortError}
+use Rattle.hub_ports.specs.declared.closing.Closing.{Closing}
 use Rattle.hub_ports.specs.declared.error.SendRefusal.{SendRefusal}
-use Rattle.hub_ports.specs.declared.error.SendRefusal.TheVariants.{Closed, Moving, OutOfMemory, Taken}
+use Rattle.hub_ports.specs.declared.error.SendRefusal.TheVariants.{Closed, Moving, OutOfMemory, Doomed, TooManyPorts, Strayed, Taken}
+use Rattle.hub_ports.specs.declared.parcel.Parcel.{Parcel}
 use Rattle.hub_ports.specs.Flying.{in_flight, AreFree, HaveFlownBehind, GivesBack}
-use Rattle.hub_ports.specs.Refusing.{whole_error}
+use Rattle.hub_queue.specs.declared.error.PostError.{PostError}
+use Rattle.hub_queue.specs.declared.error.PostError.TheVariants as why
+use Rattle.hub_ports.specs.Refusing.{error_of, refusal_of, IsOfFlight}
 use Rattle.hub_ports.specs.Seats.{PortSeat, end_of, ends_of, place_of}
 
 got_same : (flight : Flight) (k : Key) (p : PortSeat) → map.get (map.insert flight k p) k ≡ Some p
@@ -121,18 +123,41 @@ all_back kept sent begun numbers i now ports missing past so_far = at_end so_far
         let wrong : [] ≡ end_of p ∷ ends_of ps = sym (drop_of_length-le numbers past) ∙ coming.named in
         absurd cc
 
--- the error tells that the very ports came back
-gives_whole : (all : List PortSeat) (r : SendRefusal) (body : List ℕ) (back : Vec PortSeat Global) → back.items ≡ all → GivesBack all (whole_error r body back)
-gives_whole all Closed body back same = same
-gives_whole all Moving body back same = same
-gives_whole all OutOfMemory body back same = same
-gives_whole all Taken body back same = same
+-- no port has strayed
+abbrev pub IsWhole : SendRefusal → Type 0
+IsWhole Strayed = ⊥
+IsWhole _ = Unit {0}
 
--- a message was refused, and its ports were called back
-pub flown_back : (was now later : Option Flight) (all begun : List PortSeat) (numbers : List EndId) (back : Vec PortSeat Global) (missing : List EndId) (r : SendRefusal) (body : List ℕ) (e : PortError) → IfSome was (λ kept. HaveFlownBehind kept all begun now)
-    → ((kept : Flight) (sent : List PortSeat) → now ≡ Some (in_flight kept sent) → AreFree kept sent → numbers ≡ ends_of begun ++ ends_of sent → (back.items ≡ begun ++ sent) × (missing ≡ []) × (later ≡ Some kept))
-    → numbers ≡ ends_of all → (missing ≡ [] → e ≡ whole_error r body back) → IfSome was (λ kept. (later ≡ Some kept) × GivesBack all e)
-flown_back None now later all begun numbers back missing r body e flown called named whole = tt
-flown_back (Some kept) now later all begun numbers back missing r body e (sent, split, flown) called named whole =
+-- a line, and a flight, refuse whole parcels
+pub line-whole : (why : PostError) (r : SendRefusal) → r ≡ refusal_of why → IsWhole r
+line-whole why.Closed r is = subst IsWhole (sym is) tt
+line-whole why.Moving r is = subst IsWhole (sym is) tt
+line-whole why.OutOfMemory r is = subst IsWhole (sym is) tt
+
+pub flight-whole : (r : SendRefusal) → IsOfFlight r → IsWhole r
+flight-whole OutOfMemory h = tt
+flight-whole Taken h = tt
+flight-whole Closed h = absurd h
+flight-whole Moving h = absurd h
+flight-whole Doomed h = absurd h
+flight-whole TooManyPorts h = absurd h
+flight-whole Strayed h = absurd h
+
+-- the error tells that the very ports came back
+gives_whole : (all : List PortSeat) (r : SendRefusal) (parcel : Parcel) (closings : List Closing) → IsWhole r → parcel.ports.items ≡ all → GivesBack all (error_of r parcel closings)
+gives_whole all Closed parcel closings whole same = same
+gives_whole all Moving parcel closings whole same = same
+gives_whole all OutOfMemory parcel closings whole same = same
+gives_whole all TooManyPorts parcel closings whole same = same
+gives_whole all Taken parcel closings whole same = same
+gives_whole all Doomed parcel closings whole same = tt
+gives_whole all Strayed parcel closings whole same = absurd whole
+
+-- a parcel was refused, and its ports were called back
+pub flown_back : (was now later : Option Flight) (all begun : List PortSeat) (numbers : List EndId) (parcel : Parcel) (r told_as : SendRefusal) → IsWhole r → IfSome was (λ kept. HaveFlownBehind kept all begun now)
+    → ((kept : Flight) (sent : List PortSeat) → now ≡ Some (in_flight kept sent) → AreFree kept sent → numbers ≡ ends_of begun ++ ends_of sent → (parcel.ports.items ≡ begun ++ sent) × (parcel.missing.items ≡ []) × (later ≡ Some kept))
+    → numbers ≡ ends_of all → (parcel.missing.items ≡ [] → told_as ≡ r) → IfSome was (λ kept. (closings : List Closing) → (later ≡ Some kept) × GivesBack all (error_of told_as parcel closings))
+flown_back None now later all begun numbers parcel r told_as of flown called named whole = tt
+flown_back (Some kept) now later all begun numbers parcel r told_as of (sent, split, flown) called named whole = λ closings.
     let came = called kept sent flown.now_is flown.free (named ∙ ap ends_of split ∙ map-append end_of begun sent) in
-    (came.2, subst (GivesBack all) (sym (whole came.1)) (gives_whole all r body back (came.0 ∙ sym split)))
+    (came.2, subst (λ (x : SendRefusal). GivesBack all (error_of x parcel closings)) (sym (whole came.1)) (gives_whole all r parcel closings of (came.0 ∙ sym split)))

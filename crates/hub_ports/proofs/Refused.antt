@@ -1,17 +1,16 @@
 -- Messages that were refused.
-use Rattle.std.proofs.Common.{arith, ◌≡◌, ℕ, ◌<◌, List, [], ◌∷◌, length, Vec, Err, refl, ap, sym, subst, inl, inr, ◌⊎◌, ◌∙◌}
-use Rattle.std.specs.declared.alloc.Global.{Global}
+use Rattle.std.proofs.Common.{arith, ◌≡◌, ◌≢◌, ℕ, ◌<◌, List, [], ◌∷◌, length, Err, refl, ap, sym, subst, inl, inr, ◌⊎◌, ◌∙◌}
 use Rattle.hub_envelope.specs.declared.envelope.Draft.{Draft}
 use Rattle.hub_envelope.specs.declared.ids.EndId.{EndId}
 use Rattle.hub_queue.specs.declared.error.PostError.{PostError}
 use Rattle.hub_queue.specs.declared.error.PostError.TheVariants as why
 use Rattle.hub_queue.specs.Posting.{IsPosted}
 use Rattle.hub_queue.specs.Standing.{StandSeat}
-use Rattle.hub_ports.specs.declared.error.PortError.{PortError}
-use Rattle.hub_ports.specs.declared.error.PortError.TheVariants as error
 use Rattle.hub_ports.specs.declared.error.SendRefusal.{SendRefusal}
-use Rattle.hub_ports.specs.declared.error.SendRefusal.TheVariants.{Closed, Moving, OutOfMemory, Taken}
-use Rattle.hub_ports.specs.Refusing.{refusal_of, IsOfFlight, whole_error}
+use Rattle.hub_ports.specs.declared.closing.Closing.{Closing}
+use Rattle.hub_ports.specs.declared.error.SendRefusal.TheVariants.{Closed, Moving, OutOfMemory, Doomed, TooManyPorts, Strayed, Taken}
+use Rattle.hub_ports.specs.declared.parcel.Parcel.{Parcel}
+use Rattle.hub_ports.specs.Refusing.{body_in, error_of, refusal_of, IsOfFlight}
 use Rattle.hub_ports.specs.Seats.{PortSeat, ends_of}
 use Rattle.hub_ports.specs.Sending.{IsRefusedAtLine, CameBack, IsUnsent}
 use Rattle.hub_ports.specs.Splitting.{IsSplit}
@@ -22,34 +21,65 @@ pub same_draft : (old new : StandSeat) (sent back draft : Draft) (why : PostErro
 same_draft old new sent back draft why h = (h.0, h.1, h.2, h.3, refl, h.5)
 
 -- the error where all ports came back from a line
-whole_line : (old new : StandSeat) (draft : Draft) (ports : List PortSeat) (body : List ℕ) (back : Vec PortSeat Global) (why : PostError) → IsRefusedAtLine old new draft why → CameBack draft body back.items → IsUnsent old new draft ports (whole_error (refusal_of why) body back)
-whole_line old new draft ports body back why.Closed h came = (h, came)
-whole_line old new draft ports body back why.Moving h came = (h, came)
-whole_line old new draft ports body back why.OutOfMemory h came = (inl h, came)
+whole_line : (old new : StandSeat) (draft : Draft) (ports : List PortSeat) (parcel : Parcel) (closings : List Closing) (why : PostError) → IsRefusedAtLine old new draft why → CameBack draft (body_in parcel) parcel.ports.items → IsUnsent old new draft ports (error_of (refusal_of why) parcel closings)
+whole_line old new draft ports parcel closings why.Closed h came = (h, came)
+whole_line old new draft ports parcel closings why.Moving h came = (h, came)
+whole_line old new draft ports parcel closings why.OutOfMemory h came = (inl h, came)
 
 -- the error where all ports came back that were kept out of flight
-whole_flight : (s : StandSeat) (draft : Draft) (ports : List PortSeat) (body : List ℕ) (back : Vec PortSeat Global) (r : SendRefusal) → IsOfFlight r → CameBack draft body back.items → IsUnsent s s draft ports (whole_error r body back)
-whole_flight s draft ports body back Closed h came = absurd h
-whole_flight s draft ports body back Moving h came = absurd h
-whole_flight s draft ports body back OutOfMemory h came = (inr refl, came)
-whole_flight s draft ports body back Taken h came = (refl, came)
+whole_flight : (s : StandSeat) (draft : Draft) (ports : List PortSeat) (parcel : Parcel) (closings : List Closing) (r : SendRefusal) → IsOfFlight r → CameBack draft (body_in parcel) parcel.ports.items → IsUnsent s s draft ports (error_of r parcel closings)
+whole_flight s draft ports parcel closings OutOfMemory h came = (inr refl, came)
+whole_flight s draft ports parcel closings Taken h came = (refl, came)
+whole_flight s draft ports parcel closings Closed h came = absurd h
+whole_flight s draft ports parcel closings Moving h came = absurd h
+whole_flight s draft ports parcel closings Doomed h came = absurd h
+whole_flight s draft ports parcel closings TooManyPorts h came = absurd h
+whole_flight s draft ports parcel closings Strayed h came = absurd h
 
 -- the error that is told: the whole one, or which ports are missing
-told : (old new : StandSeat) (draft : Draft) (ports : List PortSeat) (body : List ℕ) (back : Vec PortSeat Global) (missing : Vec EndId Global) (whole e : PortError) (ms : List EndId) → missing.items ≡ ms → body ≡ draft.body → IsSplit draft.ports (ends_of back.items) missing.items → ((why : PostError) × IsRefusedAtLine old new draft why) ⊎ (new ≡ old) → (CameBack draft body back.items → IsUnsent old new draft ports whole) → (missing.items ≡ [] → e ≡ whole) → (0 < length missing.items → e ≡ error.Strayed missing body back) → IsUnsent old new draft ports e
-told old new draft ports body back missing whole e [] is same split h came all some =
-    subst (IsUnsent old new draft ports) (sym (all is)) (came (same, split-whole draft.ports (ends_of back.items) missing.items split is))
-told old new draft ports body back missing whole e (m ∷ ms) is same split h came all some =
+told : (old new : StandSeat) (draft : Draft) (ports : List PortSeat) (parcel : Parcel) (closings : List Closing) (whole r : SendRefusal) (ms : List EndId) → parcel.missing.items ≡ ms → body_in parcel ≡ draft.body → IsSplit draft.ports (ends_of parcel.ports.items) parcel.missing.items → ((why : PostError) × IsRefusedAtLine old new draft why) ⊎ (new ≡ old)
+    → (CameBack draft (body_in parcel) parcel.ports.items → IsUnsent old new draft ports (error_of whole parcel closings)) → (parcel.missing.items ≡ [] → r ≡ whole) → (0 < length parcel.missing.items → r ≡ Strayed) → IsUnsent old new draft ports (error_of r parcel closings)
+told old new draft ports parcel closings whole r [] is same split h came all some =
+    subst (λ (x : SendRefusal). IsUnsent old new draft ports (error_of x parcel closings)) (sym (all is)) (came (same, split-whole draft.ports (ends_of parcel.ports.items) parcel.missing.items split is))
+told old new draft ports parcel closings whole r (m ∷ ms) is same split h came all some =
     let many = ap length is in
-    let count : 0 < length missing.items = omega arith in
-    subst (IsUnsent old new draft ports) (sym (some count)) (h, same, count, split)
+    let count : 0 < length parcel.missing.items = omega arith in
+    subst (λ (x : SendRefusal). IsUnsent old new draft ports (error_of x parcel closings)) (sym (some count)) (h, same, count, split)
 
--- the line refused the message
-pub refused_by_line : (old new : StandSeat) (draft : Draft) (ports : List PortSeat) (body : List ℕ) (back : Vec PortSeat Global) (missing : Vec EndId Global) (r : SendRefusal) (e : PortError) (why : PostError) → r ≡ refusal_of why → body ≡ draft.body → IsSplit draft.ports (ends_of back.items) missing.items → IsRefusedAtLine old new draft why → (missing.items ≡ [] → e ≡ whole_error r body back) → (0 < length missing.items → e ≡ error.Strayed missing body back) → IsUnsent old new draft ports e
-refused_by_line old new draft ports body back missing r e why which same split h all some =
-    told old new draft ports body back missing (whole_error (refusal_of why) body back) e missing.items refl same split (inl (why, h)) (whole_line old new draft ports body back why h)
-    (λ none. all none ∙ ap (λ x. whole_error x body back) which) some
+-- the line refused the parcel
+pub refused_by_line : (old new : StandSeat) (draft : Draft) (ports : List PortSeat) (parcel : Parcel) (closings : List Closing) (r told_as : SendRefusal) (why : PostError) → r ≡ refusal_of why → body_in parcel ≡ draft.body → IsSplit draft.ports (ends_of parcel.ports.items) parcel.missing.items → IsRefusedAtLine old new draft why
+    → (parcel.missing.items ≡ [] → told_as ≡ r) → (0 < length parcel.missing.items → told_as ≡ Strayed) → IsUnsent old new draft ports (error_of told_as parcel closings)
+refused_by_line old new draft ports parcel closings r told_as why which same split h all some =
+    told old new draft ports parcel closings (refusal_of why) told_as parcel.missing.items refl same split (inl (why, h)) (whole_line old new draft ports parcel closings why h)
+    (λ none. all none ∙ which) some
 
 -- a port was kept out of flight
-pub refused_by_flight : (s : StandSeat) (draft : Draft) (ports : List PortSeat) (body : List ℕ) (back : Vec PortSeat Global) (missing : Vec EndId Global) (r : SendRefusal) (e : PortError) → IsOfFlight r → body ≡ draft.body → IsSplit draft.ports (ends_of back.items) missing.items → (missing.items ≡ [] → e ≡ whole_error r body back) → (0 < length missing.items → e ≡ error.Strayed missing body back) → IsUnsent s s draft ports e
-refused_by_flight s draft ports body back missing r e of same split all some =
-    told s s draft ports body back missing (whole_error r body back) e missing.items refl same split (inr refl) (whole_flight s draft ports body back r of) all some
+pub refused_by_flight : (s : StandSeat) (draft : Draft) (ports : List PortSeat) (parcel : Parcel) (closings : List Closing) (r told_as : SendRefusal) → IsOfFlight r → body_in parcel ≡ draft.body → IsSplit draft.ports (ends_of parcel.ports.items) parcel.missing.items → (parcel.missing.items ≡ [] → told_as ≡ r) → (0 < length parcel.missing.items → told_as ≡ Strayed) → IsUnsent s s draft ports (error_of told_as parcel closings)
+refused_by_flight s draft ports parcel closings r told_as of same split all some =
+    told s s draft ports parcel closings r told_as parcel.missing.items refl same split (inr refl) (whole_flight s draft ports parcel closings r of) all some
+
+-- what holds of the refusal, and of ports that have strayed, holds of what is told
+pub told_so : (P : SendRefusal → Type 0) (r told_as : SendRefusal) (missing : List EndId) → P r → P Strayed → (missing ≡ [] → told_as ≡ r) → (0 < length missing → told_as ≡ Strayed) → P told_as
+told_so P r told_as [] whole strayed all some = subst P (sym (all refl)) whole
+told_so P r told_as (m ∷ ms) whole strayed all some = subst P (sym (some (omega arith))) strayed
+
+-- neither a line nor a flight dooms a list, or finds it too long
+abbrev pub IsNoList : SendRefusal → Type 0
+IsNoList r = (r ≢ Doomed) × (r ≢ TooManyPorts)
+
+pub line-no-list : (why : PostError) (r : SendRefusal) → r ≡ refusal_of why → IsNoList r
+line-no-list why.Closed r is = (λ x. let wrong = sym is ∙ x in cc, λ x. let wrong = sym is ∙ x in cc)
+line-no-list why.Moving r is = (λ x. let wrong = sym is ∙ x in cc, λ x. let wrong = sym is ∙ x in cc)
+line-no-list why.OutOfMemory r is = (λ x. let wrong = sym is ∙ x in cc, λ x. let wrong = sym is ∙ x in cc)
+
+pub flight-no-list : (r : SendRefusal) → IsOfFlight r → IsNoList r
+flight-no-list OutOfMemory h = (λ x. cc, λ x. cc)
+flight-no-list Taken h = (λ x. cc, λ x. cc)
+flight-no-list Closed h = absurd h
+flight-no-list Moving h = absurd h
+flight-no-list Doomed h = absurd h
+flight-no-list TooManyPorts h = absurd h
+flight-no-list Strayed h = absurd h
+
+pub strayed-no-list : IsNoList Strayed
+strayed-no-list = (λ x. cc, λ x. cc)

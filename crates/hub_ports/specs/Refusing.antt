@@ -1,13 +1,14 @@
--- Why a message was not posted, and the error that is told.
-use Rattle.std.specs.Prelude.{ℕ, List, Vec}
-use Rattle.std.specs.declared.alloc.Global.{Global}
+-- Why a parcel was not posted, what is left in it, and the error that is told where nothing was lent.
+use Rattle.std.specs.Prelude.{◌≡◌, ℕ, List, [], Option, Some, None, Result, Ok, Err}
+use Rattle.hub_envelope.specs.declared.posted.Posted.{Posted}
 use Rattle.hub_queue.specs.declared.error.PostError.{PostError}
 use Rattle.hub_queue.specs.declared.error.PostError.TheVariants as why
+use Rattle.hub_ports.specs.declared.closing.Closing.{Closing}
 use Rattle.hub_ports.specs.declared.error.PortError.{PortError}
 use Rattle.hub_ports.specs.declared.error.PortError.TheVariants as error
 use Rattle.hub_ports.specs.declared.error.SendRefusal.{SendRefusal}
-use Rattle.hub_ports.specs.declared.error.SendRefusal.TheVariants.{Closed, Moving, OutOfMemory, Taken}
-use Rattle.hub_ports.specs.Seats.{PortSeat}
+use Rattle.hub_ports.specs.declared.error.SendRefusal.TheVariants.{Closed, Moving, OutOfMemory, Doomed, TooManyPorts, Strayed, Taken}
+use Rattle.hub_ports.specs.declared.parcel.Parcel.{Parcel}
 
 -- the refusal of a line
 abbrev pub refusal_of : PostError → SendRefusal
@@ -17,14 +18,35 @@ refusal_of why.OutOfMemory = OutOfMemory
 
 -- a port is kept out of flight for these two reasons alone
 abbrev pub IsOfFlight : SendRefusal → Type 0
-IsOfFlight Closed = ⊥
-IsOfFlight Moving = ⊥
 IsOfFlight OutOfMemory = Unit {0}
 IsOfFlight Taken = Unit {0}
+IsOfFlight _ = ⊥
 
--- the error where the body and all ports came back
-abbrev pub whole_error : SendRefusal → List ℕ → Vec PortSeat Global → PortError
-whole_error Closed body ports = error.Closed body ports
-whole_error Moving body ports = error.Moving body ports
-whole_error OutOfMemory body ports = error.OutOfMemory body ports
-whole_error Taken body ports = error.Taken body ports
+-- the text of a body that may be gone
+abbrev pub text_in : Option (List ℕ) → List ℕ
+text_in None = []
+text_in (Some text) = text
+
+-- the text of the body in a parcel
+abbrev pub body_in : Parcel → List ℕ
+body_in parcel = text_in parcel.body
+
+-- the error that tells of a refusal what came back in the parcel, and which ports were closed
+abbrev pub error_of : SendRefusal → Parcel → List Closing → PortError
+error_of Closed parcel closings = error.Closed (body_in parcel) parcel.ports
+error_of Moving parcel closings = error.Moving (body_in parcel) parcel.ports
+error_of OutOfMemory parcel closings = error.OutOfMemory (body_in parcel) parcel.ports
+error_of Doomed parcel closings = error.Doomed closings
+error_of TooManyPorts parcel closings = error.TooManyPorts (body_in parcel) parcel.ports
+error_of Strayed parcel closings = error.Strayed parcel.missing (body_in parcel) parcel.ports
+error_of Taken parcel closings = error.Taken (body_in parcel) parcel.ports
+
+-- the answer that tells the same
+abbrev pub answer_of : Result Posted SendRefusal → Parcel → List Closing → Result Posted PortError
+answer_of (Ok posted) parcel closings = Ok posted
+answer_of (Err refusal) parcel closings = Err (error_of refusal parcel closings)
+
+-- What was accepted is gone from the parcel. Of what was refused the body is there as it was, and of a doomed list no port is.
+abbrev pub LeavesIn : Result Posted SendRefusal → Parcel → Parcel → Type 0
+LeavesIn (Ok posted) old new = (new.body ≡ None) × (new.ports.items ≡ [])
+LeavesIn (Err refusal) old new = (new.body ≡ old.body) × (refusal ≡ Doomed → new.ports.items ≡ [])

@@ -115,7 +115,7 @@ impl Closings {
     ghost use Rattle.hub_envelope.specs.declared.limits.TheConstants.{MAX_PORTS};
 
     /// No port was closed yet.
-    pub(crate) fn none() -> Closings
+    pub fn none() -> Closings
         ensures { result ≡ [] }
     {
         Closings {

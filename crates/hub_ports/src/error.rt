@@ -1,4 +1,5 @@
 use crate::closing::Closings;
+use crate::parcel::Parcel;
 use crate::port::Port;
 use hub_envelope::{Body, EndId};
 use hub_queue::{PostError, Posted};
@@ -41,22 +42,35 @@ pub enum PortError {
 // What shows that the ports of a doomed list were closed makes the answer of a post no larger.
 const _: () = prove!(size_of::<Result<Posted, PortError>>() == 664);
 
-/// Why a message was not posted, whose ports are called back.
-#[derive(Clone, Copy, Drop)]
-pub(crate) enum SendRefusal {
+/// Why a parcel was not posted: the errors of `PortError`, where what comes back is in the parcel.
+#[derive(Clone, Copy, Debug, PartialEq, Eq, Drop, Error)]
+pub enum SendRefusal {
     /// The end is closed.
+    #[error("the end is closed")]
     Closed,
-    /// The end has moved on.
+    /// The end has moved on, and the line could not follow it.
+    #[error("the end has moved on")]
     Moving,
     /// There was no memory.
+    #[error("out of memory")]
     OutOfMemory,
-    /// A port of the same number is in flight.
+    /// The parcel holds the port at whose end the message was to go. Its ports were closed.
+    #[error("the port of the peer is sent along")]
+    Doomed,
+    /// The parcel has more than `MAX_PORTS` ports.
+    #[error("too many ports")]
+    TooManyPorts,
+    /// The parcel lists the ports that were not found in flight again as missing.
+    #[error("ports have strayed")]
+    Strayed,
+    /// A port of the same number is in flight: another port that uses this hub has it.
+    #[error("a port of that number is in flight")]
     Taken,
 }
 
 impl SendRefusal {
-    ghost use Rattle.std.specs.Prelude.{◌≡◌};
-    ghost use Rattle.hub_ports.specs.Refusing.{refusal_of};
+    ghost use Rattle.std.specs.Prelude.{◌≡◌, IsSome};
+    ghost use Rattle.hub_ports.specs.Refusing.{error_of, refusal_of};
 
     /// The refusal of a line.
     pub(crate) fn of_line(error: PostError) -> SendRefusal
@@ -66,6 +80,28 @@ impl SendRefusal {
             PostError::Closed => SendRefusal::Closed,
             PostError::Moving => SendRefusal::Moving,
             PostError::OutOfMemory => SendRefusal::OutOfMemory,
+        }
+    }
+
+    /// The error of a post whose caller has lent nothing.
+    pub(crate) fn into_error(self, parcel: Parcel, closings: Closings) -> PortError
+        requires { IsSome parcel.body }
+        ensures { result ≡ error_of self parcel closings }
+    {
+        let Parcel {
+            body,
+            ports,
+            missing,
+        } = parcel;
+        let body = body.unwrap();
+        match self {
+            SendRefusal::Closed => PortError::Closed(body, ports),
+            SendRefusal::Moving => PortError::Moving(body, ports),
+            SendRefusal::OutOfMemory => PortError::OutOfMemory(body, ports),
+            SendRefusal::Doomed => PortError::Doomed(closings),
+            SendRefusal::TooManyPorts => PortError::TooManyPorts(body, ports),
+            SendRefusal::Strayed => PortError::Strayed(missing, body, ports),
+            SendRefusal::Taken => PortError::Taken(body, ports),
         }
     }
 }

@@ -14,13 +14,15 @@ mod closing;
 mod error;
 mod flight;
 mod hub;
+mod parcel;
 mod port;
 mod sending;
 
 pub use arriving::{Arrival, Arrived, arrive_from};
 pub use closing::{Closing, ClosingStep, Closings, Noticed, Spent, close_in_order};
-pub use error::{ChannelError, PortError};
+pub use error::{ChannelError, PortError, SendRefusal};
 pub use flight::close_flight;
 pub use hub::{Hub, channel};
+pub use parcel::Parcel;
 pub use port::Port;
-pub use sending::{send, send_with_ports};
+pub use sending::{send, send_parcel, send_with_ports};

@@ -1,8 +1,9 @@
-use crate::closing::{Noticed, Spent, close_port};
-use crate::error::PortError;
+use crate::closing::{Closings, Noticed, Spent, close_port};
+use crate::error::{PortError, SendRefusal};
 use crate::flight::place;
 use crate::hub::Hub;
-use crate::sending::send;
+use crate::parcel::Parcel;
+use crate::sending::{send, send_parcel};
 use hub_depot::{Key, Named};
 use hub_envelope::{AgentId, Body, EndId};
 use hub_queue::{Grave, Posted, Poster, Steps, Taker, Took};
@@ -53,12 +54,13 @@ impl Named for Port {
 }
 
 impl Port {
-    ghost use Rattle.std.specs.Prelude.{◌≡◌, ◌↔◌, ◌<◌, ◌≤◌, Contains, length};
+    ghost use Rattle.std.specs.Prelude.{◌≡◌, ◌↔◌, ◌<◌, ◌≤◌, Contains, IsErrOf, IsSome, length};
     ghost use Rattle.hub_envelope.specs.declared.limits.TheConstants.{MAX_PORTS};
     ghost use Rattle.hub_queue.specs.Adopting.{newest_epoch};
     ghost use Rattle.hub_queue.specs.Ending.{IsClosed};
     ghost use Rattle.hub_queue.specs.Taking.{IsTaken, started};
     ghost use Rattle.hub_ports.specs.Closing.{IsNoticed};
+    ghost use Rattle.hub_ports.specs.Refusing.{LeavesIn, answer_of, body_in};
     ghost use Rattle.hub_ports.specs.Seats.{end_of, ends_of};
     ghost use Rattle.hub_ports.specs.Sending.{IsSent, IsDoomed, IsTooMany};
 
@@ -132,6 +134,32 @@ impl Port {
         ensures taker { self.new.taker ≡ self.old.taker }
     {
         send(&mut self.poster, rt, hub, agent, body, transfer)
+    }
+
+    /// The same, where what is posted is lent: it answers in a few words why it posted nothing, and
+    /// what comes back is in the parcel. After `Doomed` the ports that were closed are listed in
+    /// `closings`, in place of what was there; after anything else that list says nothing.
+    #[inline(always)]
+    pub fn post_parcel<R: Wait>(
+        &mut self,
+        rt: &R,
+        hub: &Hub,
+        agent: AgentId,
+        parcel: &mut Parcel,
+        closings: &mut Closings,
+    ) -> Result<Posted, SendRefusal>
+        requires { IsSome parcel.old.body }
+        ensures sent { IsSent self.old.poster self.new.poster agent (body_in parcel.old)
+            parcel.old.ports.items (answer_of result parcel.new closings.new) }
+        ensures left { LeavesIn result parcel.old parcel.new }
+        ensures many { IsErrOf result SendRefusal.TooManyPorts
+            ↔ (MAX_PORTS < length parcel.old.ports.items) }
+        ensures doomed { IsErrOf result SendRefusal.Doomed
+            ↔ ((length parcel.old.ports.items ≤ MAX_PORTS)
+            × Contains (ends_of parcel.old.ports.items) self.old.poster.name.end) }
+        ensures taker { self.new.taker ≡ self.old.taker }
+    {
+        send_parcel(&mut self.poster, rt, hub, agent, parcel, closings)
     }
 
     /// Closes the port (WHATWG HTML, "Message ports": `close()`, which disentangles it). First it

@@ -1,22 +1,26 @@
 //! How a body is posted with the ports that are sent along.
-ghost use Rattle.std.specs.Prelude.{◌≡◌, ◌↔◌, ◌<◌, ◌≤◌, [], Contains, length, Err, IfOk, IfSome};
+ghost use Rattle.std.specs.Prelude.{◌≡◌, ◌↔◌, ◌<◌, ◌≤◌, [], List, Contains, length, IfOk};
+ghost use Rattle.std.specs.Prelude.{IfSome, IsErrOf, IsSome, Err};
 ghost use Rattle.std.specs.List.{list_any};
 ghost use Rattle.hub_envelope.specs.declared.limits.TheConstants.{MAX_PORTS};
 ghost use Rattle.hub_ports.specs.Flying.{IsFlown};
-ghost use Rattle.hub_ports.specs.Refusing.{refusal_of, whole_error};
+ghost use Rattle.hub_ports.specs.Refusing.{LeavesIn, answer_of, body_in, error_of};
 ghost use Rattle.hub_ports.specs.Seats.{ends_of, is_numbered};
 ghost use Rattle.hub_ports.specs.Sending.{IsSent, IsDoomed, IsTooMany};
+ghost use Rattle.hub_ports.specs.declared.closing.Closing.{Closing};
 
-use crate::closing::close_all;
+use crate::closing::{Closings, close_all};
 use crate::error::{PortError, SendRefusal};
 use crate::flight::{call_back, send_off};
 use crate::hub::Hub;
+use crate::parcel::Parcel;
 use crate::port::Port;
 use hub_depot::Kept;
 use hub_envelope::{AgentId, Body, Draft, EndId, MAX_PORTS, OutOfMemory, Ports};
 use hub_locked::Lends;
-use hub_queue::{PostError, Posted, Poster};
+use hub_queue::{Posted, Poster};
 use std::alloc::Global;
+use std::mem::replace;
 use std::sync::Wait;
 
 /// Whether a port of the list has this number.
@@ -37,42 +41,52 @@ fn numbers_of(alloc: Global, ports: &[Port]) -> Result<Vec<EndId>, OutOfMemory>
     Ok(numbers)
 }
 
-/// The error of a message that was refused, where all its ports are in hand.
-fn refused_whole(refusal: SendRefusal, body: Body, ports: Vec<Port>) -> PortError
-    ensures { result ≡ whole_error refusal body ports }
-{
-    match refusal {
-        SendRefusal::Closed => PortError::Closed(body, ports),
-        SendRefusal::Moving => PortError::Moving(body, ports),
-        SendRefusal::OutOfMemory => PortError::OutOfMemory(body, ports),
-        SendRefusal::Taken => PortError::Taken(body, ports),
-    }
-}
-
-/// The error of a message that was refused, once its ports were called back.
-fn refused(refusal: SendRefusal, missing: Vec<EndId>, body: Body, ports: Vec<Port>) -> PortError
-    ensures whole { missing.items ≡ [] → result ≡ whole_error refusal body ports }
-    ensures strayed { 0 < length missing.items → result ≡ PortError.Strayed missing body ports }
+/// The refusal that is told, once the ports were called back.
+fn refused(refusal: SendRefusal, missing: &[EndId]) -> SendRefusal
+    ensures whole { missing.now ≡ [] → result ≡ refusal }
+    ensures strayed { 0 < length missing.now → result ≡ SendRefusal.Strayed }
 {
     if missing.is_empty() {
-        refused_whole(refusal, body, ports)
+        refusal
     } else {
-        PortError::Strayed(missing, body, ports)
+        SendRefusal::Strayed
     }
 }
 
-/// The answer to a message without ports that its line refused. It is no part of `send`, as
-/// `send_with_ports` isn't.
-#[cold]
-#[inline(never)]
-fn turned_back(error: PostError, draft: Draft, none: Vec<Port>) -> Result<Posted, PortError>
-    ensures { result ≡ Err (whole_error (refusal_of error) draft.body none) }
+/// Posts a parcel without ports.
+#[inline(always)]
+fn send_alone<R: Wait>(
+    line: &mut Poster,
+    rt: &R,
+    hub: &Hub,
+    agent: AgentId,
+    parcel: &mut Parcel,
+) -> Result<Posted, SendRefusal>
+    requires body { IsSome parcel.old.body }
+    requires none { parcel.old.ports.items ≡ [] }
+    ensures sent { (closings : List Closing) → IsSent line.old line.new agent
+        (body_in parcel.old) [] (answer_of result parcel.new closings) }
+    ensures left { LeavesIn result parcel.old parcel.new }
+    ensures ports { parcel.new.ports ≡ parcel.old.ports }
+    ensures many { IsErrOf result SendRefusal.TooManyPorts → ⊥ }
+    ensures doomed { IsErrOf result SendRefusal.Doomed → ⊥ }
 {
-    let Draft { body, .. } = draft;
-    Err(refused_whole(SendRefusal::of_line(error), body, none))
+    let draft = Draft {
+        agent,
+        body: parcel.body.take().unwrap(),
+        ports: Ports::none(hub.alloc),
+        notice: false,
+    };
+    match line.post(rt, &hub.yard, draft) {
+        Ok(posted) => Ok(posted),
+        Err((error, draft)) => {
+            parcel.body = Some(draft.body);
+            Err(SendRefusal::of_line(error))
+        }
+    }
 }
 
-/// Posts a body with at most so many ports as an envelope may have, over a flight that anybody
+/// Posts a parcel with at most so many ports as an envelope may have, over a flight that anybody
 /// lends. What giving them back wants is reserved before the first is in flight.
 fn post_with_ports<L: Lends<Kept<Port>>, R: Wait>(
     rt: &R,
@@ -80,54 +94,59 @@ fn post_with_ports<L: Lends<Kept<Port>>, R: Wait>(
     flight: &mut L,
     line: &mut Poster,
     agent: AgentId,
-    body: Body,
-    mut ports: Vec<Port>,
-) -> Result<Posted, PortError>
-    requires { length ports.items ≤ MAX_PORTS }
-    ensures sent { IsSent line.old line.new agent body ports.items result }
-    ensures many { IsTooMany result → ⊥ }
-    ensures doomed { IsDoomed result → ⊥ }
-    ensures flown { IfSome (L.shown flight.old) (λ kept.
-        IsFlown kept ports.items (L.shown flight.new) result) }
+    parcel: &mut Parcel,
+) -> Result<Posted, SendRefusal>
+    requires body { IsSome parcel.old.body }
+    requires few { length parcel.old.ports.items ≤ MAX_PORTS }
+    ensures sent { (closings : List Closing) → IsSent line.old line.new agent
+        (body_in parcel.old) parcel.old.ports.items (answer_of result parcel.new closings) }
+    ensures left { LeavesIn result parcel.old parcel.new }
+    ensures many { IsErrOf result SendRefusal.TooManyPorts → ⊥ }
+    ensures doomed { IsErrOf result SendRefusal.Doomed → ⊥ }
+    ensures flown { IfSome (L.shown flight.old) (λ kept. (closings : List Closing)
+        → IsFlown kept parcel.old.ports.items (L.shown flight.new)
+        (answer_of result parcel.new closings)) }
 {
+    let Parcel {
+        body,
+        ports,
+        missing,
+    } = parcel;
     let Ok(numbers) = numbers_of(hub.alloc, ports.as_slice()) else {
-        return Err(PortError::OutOfMemory(body, ports));
+        return Err(SendRefusal::OutOfMemory);
     };
-    let Ok(mut missing) = Vec::with_capacity(hub.alloc, numbers.len()) else {
-        return Err(PortError::OutOfMemory(body, ports));
+    let Ok(room) = Vec::with_capacity(hub.alloc, numbers.len()) else {
+        return Err(SendRefusal::OutOfMemory);
     };
-    if let Err(refusal) = send_off(rt, flight, &mut ports) {
-        call_back(rt, flight, numbers.as_slice(), &mut ports, &mut missing);
-        return Err(refused(refusal, missing, body, ports));
+    *missing = room;
+    if let Err(refusal) = send_off(rt, flight, ports) {
+        call_back(rt, flight, numbers.as_slice(), ports, missing);
+        return Err(refused(refusal, missing.as_slice()));
     }
     let Ok(listed) = Ports::of_list(numbers) else {
         unreachable!();
     };
     let draft = Draft {
         agent,
-        body,
+        body: body.take().unwrap(),
         ports: listed,
         notice: false,
     };
     match line.post(rt, &hub.yard, draft) {
         Ok(posted) => Ok(posted),
         Err((error, draft)) => {
-            let Draft {
-                body,
-                ports: listed,
-                ..
-            } = draft;
-            let refusal = SendRefusal::of_line(error);
-            call_back(rt, flight, listed.as_slice(), &mut ports, &mut missing);
-            Err(refused(refusal, missing, body, ports))
+            let listed = draft.ports;
+            call_back(rt, flight, listed.as_slice(), ports, missing);
+            *body = Some(draft.body);
+            Err(refused(SendRefusal::of_line(error), missing.as_slice()))
         }
     }
 }
 
-/// Posts a body with the ports of a list, over a flight that anybody lends: of the hub it uses the
-/// yard and the allocator alone. The errors are those of `Port::post`.
-// It is no part of `send`, so that a post without ports doesn't pay for the room that the errors of
-// a list take on the stack.
+/// Posts a parcel with ports, over a flight that anybody lends: of the hub it uses the yard and the
+/// allocator alone. The refusals are those of `send_parcel`.
+// It is no part of `send_parcel`, so that a post without ports doesn't pay for the room that a list
+// takes on the stack.
 #[inline(never)]
 pub fn send_with_ports<L: Lends<Kept<Port>>, R: Wait>(
     rt: &R,
@@ -135,24 +154,92 @@ pub fn send_with_ports<L: Lends<Kept<Port>>, R: Wait>(
     flight: &mut L,
     line: &mut Poster,
     agent: AgentId,
-    body: Body,
-    transfer: Vec<Port>,
-) -> Result<Posted, PortError>
-    ensures sent { IsSent line.old line.new agent body transfer.items result }
-    ensures many { IsTooMany result ↔ (MAX_PORTS < length transfer.items) }
-    ensures doomed { IsDoomed result ↔ ((length transfer.items ≤ MAX_PORTS)
-        × Contains (ends_of transfer.items) line.old.name.end) }
+    parcel: &mut Parcel,
+    closings: &mut Closings,
+) -> Result<Posted, SendRefusal>
+    requires { IsSome parcel.old.body }
+    ensures sent { IsSent line.old line.new agent (body_in parcel.old) parcel.old.ports.items
+        (answer_of result parcel.new closings.new) }
+    ensures left { LeavesIn result parcel.old parcel.new }
+    ensures many { IsErrOf result SendRefusal.TooManyPorts
+        ↔ (MAX_PORTS < length parcel.old.ports.items) }
+    ensures doomed { IsErrOf result SendRefusal.Doomed
+        ↔ ((length parcel.old.ports.items ≤ MAX_PORTS)
+        × Contains (ends_of parcel.old.ports.items) line.old.name.end) }
     ensures flown { IfSome (L.shown flight.old) (λ kept.
-        IsFlown kept transfer.items (L.shown flight.new) result) }
+        IsFlown kept parcel.old.ports.items (L.shown flight.new)
+        (answer_of result parcel.new closings.new)) }
 {
-    if transfer.len() > MAX_PORTS {
-        return Err(PortError::TooManyPorts(body, transfer));
+    if parcel.ports.len() > MAX_PORTS {
+        return Err(SendRefusal::TooManyPorts);
     }
-    if holds(transfer.as_slice(), line.name().end) {
-        let closings = close_all(rt, hub.alloc, &hub.yard, transfer);
-        return Err(PortError::Doomed(closings));
+    if holds(parcel.ports.as_slice(), line.name().end) {
+        let ports = replace(&mut parcel.ports, Vec::new(hub.alloc));
+        *closings = close_all(rt, hub.alloc, &hub.yard, ports);
+        return Err(SendRefusal::Doomed);
     }
-    post_with_ports(rt, hub, flight, line, agent, body, transfer)
+    post_with_ports(rt, hub, flight, line, agent, parcel)
+}
+
+/// Posts a parcel over a line: `Port::post_parcel`, over a line of a queue (Service Workers,
+/// "client message queue") in place of a port's own. Where the line's end is no port, `Doomed`
+/// never comes.
+#[inline(always)]
+pub fn send_parcel<R: Wait>(
+    line: &mut Poster,
+    rt: &R,
+    hub: &Hub,
+    agent: AgentId,
+    parcel: &mut Parcel,
+    closings: &mut Closings,
+) -> Result<Posted, SendRefusal>
+    requires { IsSome parcel.old.body }
+    ensures sent { IsSent line.old line.new agent (body_in parcel.old) parcel.old.ports.items
+        (answer_of result parcel.new closings.new) }
+    ensures left { LeavesIn result parcel.old parcel.new }
+    ensures many { IsErrOf result SendRefusal.TooManyPorts
+        ↔ (MAX_PORTS < length parcel.old.ports.items) }
+    ensures doomed { IsErrOf result SendRefusal.Doomed
+        ↔ ((length parcel.old.ports.items ≤ MAX_PORTS)
+        × Contains (ends_of parcel.old.ports.items) line.old.name.end) }
+{
+    if parcel.ports.is_empty() {
+        return send_alone(line, rt, hub, agent, parcel);
+    }
+    let mut flight = hub.flight.lock();
+    send_with_ports(rt, hub, &mut flight, line, agent, parcel, closings)
+}
+
+/// Posts a parcel with ports whose caller has lent no list of closings.
+#[inline(never)]
+fn send_list<R: Wait>(
+    line: &mut Poster,
+    rt: &R,
+    hub: &Hub,
+    agent: AgentId,
+    mut parcel: Parcel,
+) -> Result<Posted, PortError>
+    requires { IsSome parcel.body }
+    ensures sent { IsSent line.old line.new agent (body_in parcel) parcel.ports.items result }
+    ensures many { IsTooMany result ↔ (MAX_PORTS < length parcel.ports.items) }
+    ensures doomed { IsDoomed result ↔ ((length parcel.ports.items ≤ MAX_PORTS)
+        × Contains (ends_of parcel.ports.items) line.old.name.end) }
+{
+    let mut closings = Closings::none();
+    match send_parcel(line, rt, hub, agent, &mut parcel, &mut closings) {
+        Ok(posted) => Ok(posted),
+        Err(refusal) => Err(refusal.into_error(parcel, closings)),
+    }
+}
+
+/// The answer to a parcel without ports that its line refused.
+#[cold]
+#[inline(never)]
+fn turned_back(refusal: SendRefusal, parcel: Parcel) -> Result<Posted, PortError>
+    requires { IsSome parcel.body }
+    ensures { result ≡ Err (error_of refusal parcel []) }
+{
+    Err(refusal.into_error(parcel, Closings::none()))
 }
 
 /// Posts a body over a line, with ports that are sent along: `Port::post`, over a line of a queue
@@ -174,19 +261,12 @@ pub fn send<R: Wait>(
     ensures doomed { IsDoomed result ↔ ((length transfer.items ≤ MAX_PORTS)
         × Contains (ends_of transfer.items) line.old.name.end) }
 {
-    if !transfer.is_empty() {
-        let mut flight = hub.flight.lock();
-        return send_with_ports(rt, hub, &mut flight, line, agent, body, transfer);
+    let mut parcel = Parcel::new(hub.alloc, body, transfer);
+    if !parcel.ports.is_empty() {
+        return send_list(line, rt, hub, agent, parcel);
     }
-    let draft = Draft {
-        agent,
-        body,
-        ports: Ports::none(hub.alloc),
-        notice: false,
-    };
-    let (error, draft) = match line.post(rt, &hub.yard, draft) {
-        Ok(posted) => return Ok(posted),
-        Err(refusal) => refusal,
-    };
-    turned_back(error, draft, transfer)
+    match send_alone(line, rt, hub, agent, &mut parcel) {
+        Ok(posted) => Ok(posted),
+        Err(refusal) => turned_back(refusal, parcel),
+    }
 }

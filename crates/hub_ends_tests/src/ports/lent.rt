@@ -5,8 +5,8 @@ use hub_depot::{Depot, Kept};
 use hub_envelope::{AgentId, EndId, Envelope};
 use hub_locked::Lends;
 use hub_ports::{
-    ClosingStep, Hub, Noticed, Port, Spent, arrive_from, close_flight, close_in_order,
-    send_with_ports,
+    ClosingStep, Closings, Hub, Noticed, Parcel, Port, Spent, arrive_from, close_flight,
+    close_in_order, send_with_ports,
 };
 use hub_queue::{Ends, Mailbox, Onward, Point, Poster, Swept, Taker, Took};
 use hub_test_parts::{bell, body, draft, take};
@@ -51,17 +51,20 @@ fn flies<L: Lends<Kept<Port>>, R: Wait>(
     let (near, far) = entangled(alloc, &mut Ends::new())?;
     let mut sent = room(alloc, 1)?;
     sent.push(far).ok()?;
+    let mut parcel = Parcel::new(alloc, body(alloc, "1")?, sent);
+    let mut closings = Closings::none();
+    let agent = AgentId(0);
     let posted = send_with_ports(
         rt,
         hub,
         flight,
         &mut line,
-        AgentId(0),
-        body(alloc, "1")?,
-        sent,
+        agent,
+        &mut parcel,
+        &mut closings,
     );
-    let is_posted = posted.is_ok();
-    drop(posted);
+    let is_posted = posted.is_ok() && parcel.body.is_none() && parcel.ports.is_empty();
+    drop(parcel);
     let envelope = taken(rt, &mut taker)?;
     let first = arrived(rt, alloc, flight, &envelope)?;
     let again = arrived(rt, alloc, flight, &envelope)?;

@@ -1,52 +1,106 @@
-use Rattle.std.proofs.Common.{◌≡◌, vec_len, inr, refl, ap, ◌∙◌}
+use Rattle.std.proofs.Common.{◌≡◌, ◌<◌, List, [], length, vec_len, Some, inr, refl, ap, sym, subst, ◌∙◌}
 use Rattle.hub_envelope.specs.declared.envelope.Draft.{Draft}
+use Rattle.hub_envelope.specs.declared.ids.EndId.{EndId}
+use Rattle.hub_ports.specs.declared.error.SendRefusal.TheVariants.{Doomed, TooManyPorts, Strayed}
+use Rattle.hub_ports.specs.Refusing.{body_in, text_in}
 use Rattle.hub_ports.specs.Seats.{ends_of}
 use Rattle.hub_ports.specs.Sending.{draft_of}
-use Rattle.hub_ports.proofs.Flights.{flown_back}
-use Rattle.hub_ports.proofs.Refused.{same_draft, refused_by_line, refused_by_flight}
+use Rattle.hub_ports.proofs.Flights.{flight-whole, flown_back, line-whole}
+use Rattle.hub_ports.proofs.Refused.{IsNoList, flight-no-list, line-no-list, same_draft, refused_by_line, refused_by_flight, strayed-no-list, told_so}
 use Rattle.hub_ports.proofs.Splits.{ends-begun, split-same}
 use Rattle.hub_ports.proofs.sending.post_with_ports.Goals as goal
 
 pub returns-in_default-clause-sent : goal.returns-in_default-clause-sent
-returns-in_default-clause-sent g c = (inr refl, (refl, refl))
+returns-in_default-clause-sent g c = λ closings. (inr refl, (refl, refl))
 
 pub returns-in_default-with_capacity-clause-sent : goal.returns-in_default-with_capacity-clause-sent
-returns-in_default-with_capacity-clause-sent g c = (inr refl, (refl, refl))
+returns-in_default-with_capacity-clause-sent g c = λ closings. (inr refl, (refl, refl))
 
 pub call_back-requires-clause-begun : goal.call_back-requires-clause-begun
 call_back-requires-clause-begun g c =
-    ends-begun (vec_len c.send_off.new.ports) c.send_off.new.ports.items c.args.ports.items c.as_slice-in-Err.result.now c.in-Err.ensures.stayed
+    ends-begun (vec_len c.send_off.new.ports) c.send_off.new.ports.items c.args.parcel.now.ports.items c.as_slice-in-Err.result.now c.in-Err.ensures.stayed
     (c.as_slice-in-Err.ensures.value ∙ c.in-Ok.ensures ∙ ap ends_of c.as_slice.ensures.value)
 
 pub returns-in-Err-clause-sent : goal.returns-in-Err-clause-sent
-returns-in-Err-clause-sent g c =
+returns-in-Err-clause-sent g c = λ closings.
     let named = c.as_slice-in-Err.ensures.value ∙ c.in-Ok.ensures ∙ ap ends_of c.as_slice.ensures.value in
-    refused_by_flight c.args.line.now (draft_of c.args.agent c.args.body c.args.ports.items) c.args.ports.items c.args.body c.call_back.new.ports c.call_back.new.missing
-    c.in-Err.refusal c.refused.result c.in-Err.ensures.refusal refl (split-same _ _ _ _ _ _ named refl refl c.call_back.ensures.split) c.refused.ensures.whole c.refused.ensures.strayed
+    let all : c.call_back.new.missing.items ≡ [] → c.refused.result ≡ c.in-Err.refusal = λ none. c.refused.ensures.whole (c.as_slice-in-Err-2.ensures.value ∙ none) in
+    let some : 0 < length c.call_back.new.missing.items → c.refused.result ≡ Strayed = λ more. c.refused.ensures.strayed (subst (λ (l : List EndId). 0 < length l) (sym c.as_slice-in-Err-2.ensures.value) more) in
+    refused_by_flight c.args.line.now (draft_of c.args.agent (body_in c.args.parcel.now) c.args.parcel.now.ports.items) c.args.parcel.now.ports.items
+    (record { body = c.args.parcel.now.body; ports = c.call_back.new.ports; missing = c.call_back.new.missing }) closings
+    c.in-Err.refusal c.refused.result c.in-Err.ensures.refusal refl (split-same _ _ _ _ _ _ named refl refl c.call_back.ensures.split) all some
 
-pub returns-in-Err-post-clause-sent : goal.returns-in-Err-post-clause-sent
-returns-in-Err-post-clause-sent g c =
-    let draft = draft_of c.args.agent c.args.body c.args.ports.items in
-    let back = c.in-Err-post.ensures.posted.4 in
-    let listed : c.as_slice-in-Err-post.result.now ≡ c.in-Err-post.draft.ports = c.as_slice-in-Err-post.ensures.listed in
-    let named : c.as_slice-in-Err-post.result.now ≡ draft.ports =
-    listed ∙ ap (λ (d : Draft). d.ports) back ∙ c.in-Ok-of_list.ensures.ok ∙ c.in-Ok.ensures ∙ ap ends_of c.as_slice.ensures.value in
-    refused_by_line c.args.line.now c.post.new.self draft c.args.ports.items c.in-Err-post.draft.body c.call_back-in-Err-post.new.ports c.call_back-in-Err-post.new.missing
-    c.of_line-refusal.result c.refused-in-Err-post.result c.in-Err-post.error c.of_line-refusal.ensures (ap (λ (d : Draft). d.body) back)
-    (split-same _ _ _ _ _ _ named refl refl c.call_back-in-Err-post.ensures.split)
-    (same_draft c.args.line.now c.post.new.self _ c.in-Err-post.draft draft c.in-Err-post.error c.in-Err-post.ensures.posted)
-    c.refused-in-Err-post.ensures.whole c.refused-in-Err-post.ensures.strayed
+pub returns-in-Err-clause-left : goal.returns-in-Err-clause-left
+returns-in-Err-clause-left g c =
+    let all : c.call_back.new.missing.items ≡ [] → c.refused.result ≡ c.in-Err.refusal = λ none. c.refused.ensures.whole (c.as_slice-in-Err-2.ensures.value ∙ none) in
+    let some : 0 < length c.call_back.new.missing.items → c.refused.result ≡ Strayed = λ more. c.refused.ensures.strayed (subst (λ (l : List EndId). 0 < length l) (sym c.as_slice-in-Err-2.ensures.value) more) in
+    let apart : IsNoList c.refused.result = told_so IsNoList c.in-Err.refusal c.refused.result c.call_back.new.missing.items (flight-no-list c.in-Err.refusal c.in-Err.ensures.refusal) strayed-no-list all some in
+    (refl, λ doomed. absurd (apart.0 doomed))
+
+pub returns-in-Err-clause-many : goal.returns-in-Err-clause-many
+returns-in-Err-clause-many g c =
+    let all : c.call_back.new.missing.items ≡ [] → c.refused.result ≡ c.in-Err.refusal = λ none. c.refused.ensures.whole (c.as_slice-in-Err-2.ensures.value ∙ none) in
+    let some : 0 < length c.call_back.new.missing.items → c.refused.result ≡ Strayed = λ more. c.refused.ensures.strayed (subst (λ (l : List EndId). 0 < length l) (sym c.as_slice-in-Err-2.ensures.value) more) in
+    let apart : IsNoList c.refused.result = told_so IsNoList c.in-Err.refusal c.refused.result c.call_back.new.missing.items (flight-no-list c.in-Err.refusal c.in-Err.ensures.refusal) strayed-no-list all some in
+    λ is. let same : c.refused.result ≡ TooManyPorts = cc in absurd (apart.1 same)
+
+pub returns-in-Err-clause-doomed : goal.returns-in-Err-clause-doomed
+returns-in-Err-clause-doomed g c =
+    let all : c.call_back.new.missing.items ≡ [] → c.refused.result ≡ c.in-Err.refusal = λ none. c.refused.ensures.whole (c.as_slice-in-Err-2.ensures.value ∙ none) in
+    let some : 0 < length c.call_back.new.missing.items → c.refused.result ≡ Strayed = λ more. c.refused.ensures.strayed (subst (λ (l : List EndId). 0 < length l) (sym c.as_slice-in-Err-2.ensures.value) more) in
+    let apart : IsNoList c.refused.result = told_so IsNoList c.in-Err.refusal c.refused.result c.call_back.new.missing.items (flight-no-list c.in-Err.refusal c.in-Err.ensures.refusal) strayed-no-list all some in
+    λ is. let same : c.refused.result ≡ Doomed = cc in absurd (apart.0 same)
 
 pub returns-in-Err-clause-flown : goal.returns-in-Err-clause-flown
 returns-in-Err-clause-flown g c =
     let named = c.as_slice-in-Err.ensures.value ∙ c.in-Ok.ensures ∙ ap ends_of c.as_slice.ensures.value in
-    flown_back (g.L.Lends.shown c.args.flight.now) _ _ c.args.ports.items c.send_off.new.ports.items c.as_slice-in-Err.result.now c.call_back.new.ports c.call_back.new.missing.items c.in-Err.refusal c.args.body c.refused.result
-    c.send_off.ensures.flown c.call_back.ensures.back named c.refused.ensures.whole
+    let all : c.call_back.new.missing.items ≡ [] → c.refused.result ≡ c.in-Err.refusal = λ none. c.refused.ensures.whole (c.as_slice-in-Err-2.ensures.value ∙ none) in
+    let some : 0 < length c.call_back.new.missing.items → c.refused.result ≡ Strayed = λ more. c.refused.ensures.strayed (subst (λ (l : List EndId). 0 < length l) (sym c.as_slice-in-Err-2.ensures.value) more) in
+    flown_back (g.L.Lends.shown c.args.flight.now) _ _ c.args.parcel.now.ports.items c.send_off.new.ports.items c.as_slice-in-Err.result.now
+    (record { body = c.args.parcel.now.body; ports = c.call_back.new.ports; missing = c.call_back.new.missing }) c.in-Err.refusal c.refused.result
+    (flight-whole c.in-Err.refusal c.in-Err.ensures.refusal) c.send_off.ensures.flown c.call_back.ensures.back named all
+
+pub returns-in-Err-post-clause-sent : goal.returns-in-Err-post-clause-sent
+returns-in-Err-post-clause-sent g c = λ closings.
+    let draft = draft_of c.args.agent (body_in c.args.parcel.now) c.args.parcel.now.ports.items in
+    let back = c.in-Err-post.ensures.posted.4 in
+    let named : c.as_slice-in-Err-post.result.now ≡ draft.ports =
+    c.as_slice-in-Err-post.ensures.listed ∙ ap (λ (d : Draft). d.ports) back ∙ c.in-Ok-of_list.ensures.ok ∙ c.in-Ok.ensures ∙ ap ends_of c.as_slice.ensures.value in
+    let all : c.call_back-in-Err-post.new.missing.items ≡ [] → c.refused-in-Err-post.result ≡ c.of_line.result = λ none. c.refused-in-Err-post.ensures.whole (c.as_slice-in-Err-post-2.ensures.value ∙ none) in
+    let some : 0 < length c.call_back-in-Err-post.new.missing.items → c.refused-in-Err-post.result ≡ Strayed = λ more. c.refused-in-Err-post.ensures.strayed (subst (λ (l : List EndId). 0 < length l) (sym c.as_slice-in-Err-post-2.ensures.value) more) in
+    refused_by_line c.args.line.now c.post.new.self draft c.args.parcel.now.ports.items
+    (record { body = Some c.in-Err-post.draft.body; ports = c.call_back-in-Err-post.new.ports; missing = c.call_back-in-Err-post.new.missing }) closings
+    c.of_line.result c.refused-in-Err-post.result c.in-Err-post.error c.of_line.ensures (ap (λ (d : Draft). d.body) back ∙ ap text_in (sym c.unwrap.ensures ∙ c.take.ensures.value))
+    (split-same _ _ _ _ _ _ named refl refl c.call_back-in-Err-post.ensures.split)
+    (same_draft c.args.line.now c.post.new.self _ c.in-Err-post.draft draft c.in-Err-post.error c.in-Err-post.ensures.posted) all some
+
+pub returns-in-Err-post-clause-left : goal.returns-in-Err-post-clause-left
+returns-in-Err-post-clause-left g c =
+    let all : c.call_back-in-Err-post.new.missing.items ≡ [] → c.refused-in-Err-post.result ≡ c.of_line.result = λ none. c.refused-in-Err-post.ensures.whole (c.as_slice-in-Err-post-2.ensures.value ∙ none) in
+    let some : 0 < length c.call_back-in-Err-post.new.missing.items → c.refused-in-Err-post.result ≡ Strayed = λ more. c.refused-in-Err-post.ensures.strayed (subst (λ (l : List EndId). 0 < length l) (sym c.as_slice-in-Err-post-2.ensures.value) more) in
+    let apart : IsNoList c.refused-in-Err-post.result = told_so IsNoList c.of_line.result c.refused-in-Err-post.result c.call_back-in-Err-post.new.missing.items (line-no-list c.in-Err-post.error c.of_line.result c.of_line.ensures) strayed-no-list all some in
+    (ap (λ (d : Draft). Some d.body) c.in-Err-post.ensures.posted.4 ∙ sym c.unwrap.ensures ∙ c.take.ensures.value, λ doomed. absurd (apart.0 doomed))
+
+pub returns-in-Err-post-clause-many : goal.returns-in-Err-post-clause-many
+returns-in-Err-post-clause-many g c =
+    let all : c.call_back-in-Err-post.new.missing.items ≡ [] → c.refused-in-Err-post.result ≡ c.of_line.result = λ none. c.refused-in-Err-post.ensures.whole (c.as_slice-in-Err-post-2.ensures.value ∙ none) in
+    let some : 0 < length c.call_back-in-Err-post.new.missing.items → c.refused-in-Err-post.result ≡ Strayed = λ more. c.refused-in-Err-post.ensures.strayed (subst (λ (l : List EndId). 0 < length l) (sym c.as_slice-in-Err-post-2.ensures.value) more) in
+    let apart : IsNoList c.refused-in-Err-post.result = told_so IsNoList c.of_line.result c.refused-in-Err-post.result c.call_back-in-Err-post.new.missing.items (line-no-list c.in-Err-post.error c.of_line.result c.of_line.ensures) strayed-no-list all some in
+    λ is. let same : c.refused-in-Err-post.result ≡ TooManyPorts = cc in absurd (apart.1 same)
+
+pub returns-in-Err-post-clause-doomed : goal.returns-in-Err-post-clause-doomed
+returns-in-Err-post-clause-doomed g c =
+    let all : c.call_back-in-Err-post.new.missing.items ≡ [] → c.refused-in-Err-post.result ≡ c.of_line.result = λ none. c.refused-in-Err-post.ensures.whole (c.as_slice-in-Err-post-2.ensures.value ∙ none) in
+    let some : 0 < length c.call_back-in-Err-post.new.missing.items → c.refused-in-Err-post.result ≡ Strayed = λ more. c.refused-in-Err-post.ensures.strayed (subst (λ (l : List EndId). 0 < length l) (sym c.as_slice-in-Err-post-2.ensures.value) more) in
+    let apart : IsNoList c.refused-in-Err-post.result = told_so IsNoList c.of_line.result c.refused-in-Err-post.result c.call_back-in-Err-post.new.missing.items (line-no-list c.in-Err-post.error c.of_line.result c.of_line.ensures) strayed-no-list all some in
+    λ is. let same : c.refused-in-Err-post.result ≡ Doomed = cc in absurd (apart.0 same)
 
 pub returns-in-Err-post-clause-flown : goal.returns-in-Err-post-clause-flown
 returns-in-Err-post-clause-flown g c =
     let back = c.in-Err-post.ensures.posted.4 in
-    let listed : c.as_slice-in-Err-post.result.now ≡ c.in-Err-post.draft.ports = c.as_slice-in-Err-post.ensures.listed in
-    let named = listed ∙ ap (λ (d : Draft). d.ports) back ∙ c.in-Ok-of_list.ensures.ok ∙ c.in-Ok.ensures ∙ ap ends_of c.as_slice.ensures.value in
-    flown_back (g.L.Lends.shown c.args.flight.now) _ _ c.args.ports.items c.send_off.new.ports.items c.as_slice-in-Err-post.result.now c.call_back-in-Err-post.new.ports c.call_back-in-Err-post.new.missing.items c.of_line-refusal.result c.in-Err-post.draft.body c.refused-in-Err-post.result
-    c.send_off.ensures.flown c.call_back-in-Err-post.ensures.back named c.refused-in-Err-post.ensures.whole
+    let named = c.as_slice-in-Err-post.ensures.listed ∙ ap (λ (d : Draft). d.ports) back ∙ c.in-Ok-of_list.ensures.ok ∙ c.in-Ok.ensures ∙ ap ends_of c.as_slice.ensures.value in
+    let all : c.call_back-in-Err-post.new.missing.items ≡ [] → c.refused-in-Err-post.result ≡ c.of_line.result = λ none. c.refused-in-Err-post.ensures.whole (c.as_slice-in-Err-post-2.ensures.value ∙ none) in
+    let some : 0 < length c.call_back-in-Err-post.new.missing.items → c.refused-in-Err-post.result ≡ Strayed = λ more. c.refused-in-Err-post.ensures.strayed (subst (λ (l : List EndId). 0 < length l) (sym c.as_slice-in-Err-post-2.ensures.value) more) in
+    flown_back (g.L.Lends.shown c.args.flight.now) _ _ c.args.parcel.now.ports.items c.send_off.new.ports.items c.as_slice-in-Err-post.result.now
+    (record { body = Some c.in-Err-post.draft.body; ports = c.call_back-in-Err-post.new.ports; missing = c.call_back-in-Err-post.new.missing }) c.of_line.result c.refused-in-Err-post.result
+    (line-whole c.in-Err-post.error c.of_line.result c.of_line.ensures) c.send_off.ensures.flown c.call_back-in-Err-post.ensures.back named all

@@ -1,4 +1,4 @@
-use Rattle.std.proofs.Common.{arith, ◌≡◌, ◌≤◌, length, true, false, ap, sym, ◌∙◌}
+use Rattle.std.proofs.Common.{arith, ◌≡◌, ◌≤◌, length, true, false, refl, ap, sym, ◌∙◌}
 use Rattle.std.specs.List.{list_any}
 use Rattle.hub_depot.specs.declared.kept.Key.{Key}
 use Rattle.hub_envelope.specs.declared.limits.TheConstants.{MAX_PORTS}
@@ -8,16 +8,16 @@ use Rattle.hub_ports.proofs.sending.send_with_ports.Goals as goal
 
 pub returns-then-holds-clause-doomed : goal.returns-then-holds-clause-doomed
 returns-then-holds-clause-doomed g c =
-    let ports = c.args.transfer.items in
+    let ports = c.args.parcel.now.ports.items in
     let peer = c.args.line.now.name.end in
     let found : list_any (is_numbered peer) ports ≡ true =
     sym (c.holds.ensures ∙ ap (λ (k : Key). list_any (is_numbered k.end) c.as_slice.result.now) c.name.ensures ∙ ap (list_any (is_numbered peer)) c.as_slice.ensures.value) ∙ c.if-holds.true in
-    let few : length ports ≤ MAX_PORTS = omega (arith, c.args.transfer.ok.0) in
-    (λ doomed. (few, found-listed peer ports found), λ holds. tt)
+    let few : length ports ≤ MAX_PORTS = omega (arith, c.args.parcel.now.ports.ok.0) in
+    (λ doomed. (few, found-listed peer ports found), λ holds. refl)
 
 pub returns-clause-doomed : goal.returns-clause-doomed
 returns-clause-doomed g c =
-    let ports = c.args.transfer.items in
+    let ports = c.args.parcel.now.ports.items in
     let peer = c.args.line.now.name.end in
     let missed : list_any (is_numbered peer) ports ≡ false =
     sym (c.holds.ensures ∙ ap (λ (k : Key). list_any (is_numbered k.end) c.as_slice.result.now) c.name.ensures ∙ ap (list_any (is_numbered peer)) c.as_slice.ensures.value) ∙ c.if-holds.false in
