@@ -10,7 +10,7 @@ ghost use Rattle.hub_agent.specs.Entries.{
   doomed_entries,
   outcome_entries,
 };
-ghost use Rattle.hub_ports.specs.Refusing.{answer_of};
+ghost use Rattle.hub_ports.specs.Refusing.{answer_with};
 ghost use Rattle.hub_ports.specs.declared.parcel.Parcel.{Parcel};
 ghost use Rattle.hub_trace.specs.Accepted.{message_at, notice_at};
 ghost use Rattle.hub_trace.specs.declared.log_entry.LogEntry.TheVariants.{Adopted, Closed, Put};
@@ -121,7 +121,7 @@ pub(crate) fn log_answer(
     body: &Body,
 ) -> Result<(), OutOfMemory>
     ensures { (parcel : Parcel) → OnOk result (WritesEntries (answer_entries ports.now body.now
-        (answer_of answer parcel closings.now)) scribe.old scribe.new) }
+        (answer_with answer parcel closings.now)) scribe.old scribe.new) }
 {
     match answer {
         Ok(posted) => log_put(scribe, posted, ports, body),

@@ -5,7 +5,7 @@ ghost use Rattle.std.specs.Prelude.{OnOk};
 ghost use Rattle.hub_loop.specs.Adopting.{HoldsMore};
 ghost use Rattle.hub_loop.specs.Looking.{HoldsNoLine};
 ghost use Rattle.hub_loop.specs.declared.held.Held.TheVariants.{Port as PortHeld};
-ghost use Rattle.hub_ports.specs.Refusing.{answer_of, body_in};
+ghost use Rattle.hub_ports.specs.Refusing.{answer_with, carried_body};
 ghost use Rattle.hub_ports.specs.Seats.{PortSeat, ends_of};
 ghost use Rattle.hub_agent.specs.Agents.{CastsFrom, KeepsButCasts, KeepsButEnds, KeepsElse};
 ghost use Rattle.hub_agent.specs.Entries.{IsCastLogged, WritesEntries};
@@ -51,11 +51,11 @@ fn post_over<C: Checkpoint, R: Wait>(
     closings: &mut Closings,
 ) -> Result<Posted, SendRefusal>
     requires { IsSome parcel.old.body }
-    ensures sent { SendsOrReturns way agent (body_in parcel.old) parcel.old.ports
+    ensures sent { SendsOrReturns way agent (carried_body parcel.old) parcel.old.ports
         event_loop.old.holding.held event_loop.new.holding.held
-        (answer_of result parcel.new closings.new) }
+        (answer_with result parcel.new closings.new) }
     ensures back { parcel.new.ports.items
-        ≡ given_back (answer_of result parcel.new closings.new) }
+        ≡ given_back (answer_with result parcel.new closings.new) }
     ensures rest { event_loop.new
         ≡ record event_loop.old { holding = event_loop.new.holding } }
 {

@@ -1,5 +1,5 @@
 -- What a post from a loop leaves.
-use Rattle.std.proofs.Common.{◌≡◌, ◌∙◌, ℕ, List, Result, Ok, Err, IfOk, IfErr, Some, None, get_or-set_other, ap, refl, subst, sym}
+use Rattle.std.proofs.Common.{◌≡◌, ◌∙◌, ℕ, List, Result, Option, IfSome, IfNone, Some, None, get_or-set_other, ap, refl, subst, sym}
 use Rattle.std.proofs.lemmas.Option.{same_Some}
 use Rattle.slab.specs.Slab.{Slab, get, with_value}
 use Rattle.hub_envelope.specs.declared.ids.AgentId.{AgentId}
@@ -27,9 +27,9 @@ at-stand-end (Member m) stand = refl
 at-stand-end (Line l) stand = refl
 
 -- an end keeps its number in a post
-pub posted-end : {E : Type 0} (agent : AgentId) (body : List ℕ) (ports : List PortSeat) (old new : Held) (result : Result (Result Posted PortError) E) → IfOk result (IsPostedOver agent body ports old new) → IfErr result (λ e. new ≡ old) → end_held new ≡ end_held old
-posted-end agent body ports old new (Ok answer) (line, stand, is, sent, left) same = ap end_held left ∙ at-stand-end old stand
-posted-end agent body ports old new (Err e) posted same = ap end_held same
+pub posted-end : {A : Type 0} (told : A → Result Posted PortError) (agent : AgentId) (body : List ℕ) (ports : List PortSeat) (old new : Held) (result : Option A) → IfSome result (λ answer. IsPostedOver agent body ports old new (told answer)) → IfNone result (new ≡ old) → end_held new ≡ end_held old
+posted-end told agent body ports old new (Some answer) (line, stand, is, sent, left) same = ap end_held left ∙ at-stand-end old stand
+posted-end told agent body ports old new None posted same = ap end_held same
 
 -- where nothing was found nothing goes this way
 pub way-lacks : (w : Way) (slots : Slab Held) → IsFound (IsWay w) slots None → LacksWay w slots

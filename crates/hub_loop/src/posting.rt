@@ -4,7 +4,7 @@ ghost use Rattle.std.specs.Prelude.{◌≡◌, None, IfNone, IfSome, IsSome};
 ghost use Rattle.hub_loop.specs.Holding.{stand_held};
 ghost use Rattle.hub_loop.specs.Looking.{IsFound, IsWay, LacksWay};
 ghost use Rattle.hub_loop.specs.Posting.{IsPostedOver, PostsThrough};
-ghost use Rattle.hub_ports.specs.Refusing.{LeavesIn, answer_of, body_in};
+ghost use Rattle.hub_ports.specs.Refusing.{LeavesIn, answer_with, carried_body};
 
 use crate::ends::HeldEnds;
 use crate::event_loop::EventLoop;
@@ -39,8 +39,8 @@ impl Held {
         closings: &mut Closings,
     ) -> FromHeld
         requires { IsSome parcel.old.body }
-        ensures posted { IfSome result (λ answer. IsPostedOver agent (body_in parcel.old)
-            parcel.old.ports.items self.old self.new (answer_of answer parcel.new closings.new)) }
+        ensures posted { IfSome result (λ answer. IsPostedOver agent (carried_body parcel.old)
+            parcel.old.ports.items self.old self.new (answer_with answer parcel.new closings.new)) }
         ensures left { IfSome result (λ answer. LeavesIn answer parcel.old parcel.new) }
         ensures other { IfNone result (stand_held self.old ≡ None) }
         ensures same { IfNone result (self.new ≡ self.old) }
@@ -77,9 +77,9 @@ impl HeldEnds {
         closings: &mut Closings,
     ) -> FromHeld
         requires { IsSome parcel.old.body }
-        ensures posted { IfSome result (λ answer. PostsThrough agent (body_in parcel.old)
+        ensures posted { IfSome result (λ answer. PostsThrough agent (carried_body parcel.old)
             parcel.old.ports.items way self.old.held self.new.held
-            (answer_of answer parcel.new closings.new)) }
+            (answer_with answer parcel.new closings.new)) }
         ensures left { IfSome result (λ answer. LeavesIn answer parcel.old parcel.new) }
         ensures missing { IfNone result (LacksWay way self.old.held) }
         ensures same { IfNone result (self.new.held ≡ self.old.held) }
@@ -108,9 +108,9 @@ impl<H: Handler + Drop, C: Checkpoint + Drop> EventLoop<H, C> {
         closings: &mut Closings,
     ) -> FromHeld
         requires { IsSome parcel.old.body }
-        ensures posted { IfSome result (λ answer. PostsThrough agent (body_in parcel.old)
+        ensures posted { IfSome result (λ answer. PostsThrough agent (carried_body parcel.old)
             parcel.old.ports.items way self.old.holding.held self.new.holding.held
-            (answer_of answer parcel.new closings.new)) }
+            (answer_with answer parcel.new closings.new)) }
         ensures left { IfSome result (λ answer. LeavesIn answer parcel.old parcel.new) }
         ensures missing { IfNone result (LacksWay way self.old.holding.held) }
         ensures held { IfNone result (self.new.holding.held ≡ self.old.holding.held) }

@@ -23,28 +23,28 @@ IsOfFlight Taken = Unit {0}
 IsOfFlight _ = ⊥
 
 -- the text of a body that may be gone
-abbrev pub text_in : Option (List ℕ) → List ℕ
-text_in None = []
-text_in (Some text) = text
+abbrev pub carried_text : Option (List ℕ) → List ℕ
+carried_text None = []
+carried_text (Some text) = text
 
 -- the text of the body in a parcel
-abbrev pub body_in : Parcel → List ℕ
-body_in parcel = text_in parcel.body
+abbrev pub carried_body : Parcel → List ℕ
+carried_body parcel = carried_text parcel.body
 
 -- the error that tells of a refusal what came back in the parcel, and which ports were closed
-abbrev pub error_of : SendRefusal → Parcel → List Closing → PortError
-error_of Closed parcel closings = error.Closed (body_in parcel) parcel.ports
-error_of Moving parcel closings = error.Moving (body_in parcel) parcel.ports
-error_of OutOfMemory parcel closings = error.OutOfMemory (body_in parcel) parcel.ports
-error_of Doomed parcel closings = error.Doomed closings
-error_of TooManyPorts parcel closings = error.TooManyPorts (body_in parcel) parcel.ports
-error_of Strayed parcel closings = error.Strayed parcel.missing (body_in parcel) parcel.ports
-error_of Taken parcel closings = error.Taken (body_in parcel) parcel.ports
+abbrev pub error_with : SendRefusal → Parcel → List Closing → PortError
+error_with Closed parcel closings = error.Closed (carried_body parcel) parcel.ports
+error_with Moving parcel closings = error.Moving (carried_body parcel) parcel.ports
+error_with OutOfMemory parcel closings = error.OutOfMemory (carried_body parcel) parcel.ports
+error_with Doomed parcel closings = error.Doomed closings
+error_with TooManyPorts parcel closings = error.TooManyPorts (carried_body parcel) parcel.ports
+error_with Strayed parcel closings = error.Strayed parcel.missing (carried_body parcel) parcel.ports
+error_with Taken parcel closings = error.Taken (carried_body parcel) parcel.ports
 
 -- the answer that tells the same
-abbrev pub answer_of : Result Posted SendRefusal → Parcel → List Closing → Result Posted PortError
-answer_of (Ok posted) parcel closings = Ok posted
-answer_of (Err refusal) parcel closings = Err (error_of refusal parcel closings)
+abbrev pub answer_with : Result Posted SendRefusal → Parcel → List Closing → Result Posted PortError
+answer_with (Ok posted) parcel closings = Ok posted
+answer_with (Err refusal) parcel closings = Err (error_with refusal parcel closings)
 
 -- What was accepted is gone from the parcel. Of what was refused the body is there as it was, and of a doomed list no port is.
 abbrev pub LeavesIn : Result Posted SendRefusal → Parcel → Parcel → Type 0

@@ -70,7 +70,7 @@ pub enum SendRefusal {
 
 impl SendRefusal {
     ghost use Rattle.std.specs.Prelude.{◌≡◌, IsSome};
-    ghost use Rattle.hub_ports.specs.Refusing.{error_of, refusal_of};
+    ghost use Rattle.hub_ports.specs.Refusing.{error_with, refusal_of};
 
     /// The refusal of a line.
     pub(crate) fn of_line(error: PostError) -> SendRefusal
@@ -86,7 +86,7 @@ impl SendRefusal {
     /// The error of a post whose caller has lent nothing.
     pub(crate) fn into_error(self, parcel: Parcel, closings: Closings) -> PortError
         requires { IsSome parcel.body }
-        ensures { result ≡ error_of self parcel closings }
+        ensures { result ≡ error_with self parcel closings }
     {
         let Parcel {
             body,

@@ -60,7 +60,7 @@ impl Port {
     ghost use Rattle.hub_queue.specs.Ending.{IsClosed};
     ghost use Rattle.hub_queue.specs.Taking.{IsTaken, started};
     ghost use Rattle.hub_ports.specs.Closing.{IsNoticed};
-    ghost use Rattle.hub_ports.specs.Refusing.{LeavesIn, answer_of, body_in};
+    ghost use Rattle.hub_ports.specs.Refusing.{LeavesIn, answer_with, carried_body};
     ghost use Rattle.hub_ports.specs.Seats.{end_of, ends_of};
     ghost use Rattle.hub_ports.specs.Sending.{IsSent, IsDoomed, IsTooMany};
 
@@ -149,8 +149,8 @@ impl Port {
         closings: &mut Closings,
     ) -> Result<Posted, SendRefusal>
         requires { IsSome parcel.old.body }
-        ensures sent { IsSent self.old.poster self.new.poster agent (body_in parcel.old)
-            parcel.old.ports.items (answer_of result parcel.new closings.new) }
+        ensures sent { IsSent self.old.poster self.new.poster agent (carried_body parcel.old)
+            parcel.old.ports.items (answer_with result parcel.new closings.new) }
         ensures left { LeavesIn result parcel.old parcel.new }
         ensures many { IsErrOf result SendRefusal.TooManyPorts
             ↔ (MAX_PORTS < length parcel.old.ports.items) }

@@ -4,7 +4,7 @@ ghost use Rattle.std.specs.Prelude.{IfSome, IsErrOf, IsSome, Err};
 ghost use Rattle.std.specs.List.{list_any};
 ghost use Rattle.hub_envelope.specs.declared.limits.TheConstants.{MAX_PORTS};
 ghost use Rattle.hub_ports.specs.Flying.{IsFlown};
-ghost use Rattle.hub_ports.specs.Refusing.{LeavesIn, answer_of, body_in, error_of};
+ghost use Rattle.hub_ports.specs.Refusing.{LeavesIn, answer_with, carried_body, error_with};
 ghost use Rattle.hub_ports.specs.Seats.{ends_of, is_numbered};
 ghost use Rattle.hub_ports.specs.Sending.{IsSent, IsDoomed, IsTooMany};
 ghost use Rattle.hub_ports.specs.declared.closing.Closing.{Closing};
@@ -65,7 +65,7 @@ fn send_alone<R: Wait>(
     requires body { IsSome parcel.old.body }
     requires none { parcel.old.ports.items ≡ [] }
     ensures sent { (closings : List Closing) → IsSent line.old line.new agent
-        (body_in parcel.old) [] (answer_of result parcel.new closings) }
+        (carried_body parcel.old) [] (answer_with result parcel.new closings) }
     ensures left { LeavesIn result parcel.old parcel.new }
     ensures ports { parcel.new.ports ≡ parcel.old.ports }
     ensures many { IsErrOf result SendRefusal.TooManyPorts → ⊥ }
@@ -99,13 +99,13 @@ fn post_with_ports<L: Lends<Kept<Port>>, R: Wait>(
     requires body { IsSome parcel.old.body }
     requires few { length parcel.old.ports.items ≤ MAX_PORTS }
     ensures sent { (closings : List Closing) → IsSent line.old line.new agent
-        (body_in parcel.old) parcel.old.ports.items (answer_of result parcel.new closings) }
+        (carried_body parcel.old) parcel.old.ports.items (answer_with result parcel.new closings) }
     ensures left { LeavesIn result parcel.old parcel.new }
     ensures many { IsErrOf result SendRefusal.TooManyPorts → ⊥ }
     ensures doomed { IsErrOf result SendRefusal.Doomed → ⊥ }
     ensures flown { IfSome (L.shown flight.old) (λ kept. (closings : List Closing)
         → IsFlown kept parcel.old.ports.items (L.shown flight.new)
-        (answer_of result parcel.new closings)) }
+        (answer_with result parcel.new closings)) }
 {
     let Parcel {
         body,
@@ -158,8 +158,8 @@ pub fn send_with_ports<L: Lends<Kept<Port>>, R: Wait>(
     closings: &mut Closings,
 ) -> Result<Posted, SendRefusal>
     requires { IsSome parcel.old.body }
-    ensures sent { IsSent line.old line.new agent (body_in parcel.old) parcel.old.ports.items
-        (answer_of result parcel.new closings.new) }
+    ensures sent { IsSent line.old line.new agent (carried_body parcel.old) parcel.old.ports.items
+        (answer_with result parcel.new closings.new) }
     ensures left { LeavesIn result parcel.old parcel.new }
     ensures many { IsErrOf result SendRefusal.TooManyPorts
         ↔ (MAX_PORTS < length parcel.old.ports.items) }
@@ -168,7 +168,7 @@ pub fn send_with_ports<L: Lends<Kept<Port>>, R: Wait>(
         × Contains (ends_of parcel.old.ports.items) line.old.name.end) }
     ensures flown { IfSome (L.shown flight.old) (λ kept.
         IsFlown kept parcel.old.ports.items (L.shown flight.new)
-        (answer_of result parcel.new closings.new)) }
+        (answer_with result parcel.new closings.new)) }
 {
     if parcel.ports.len() > MAX_PORTS {
         return Err(SendRefusal::TooManyPorts);
@@ -194,8 +194,8 @@ pub fn send_parcel<R: Wait>(
     closings: &mut Closings,
 ) -> Result<Posted, SendRefusal>
     requires { IsSome parcel.old.body }
-    ensures sent { IsSent line.old line.new agent (body_in parcel.old) parcel.old.ports.items
-        (answer_of result parcel.new closings.new) }
+    ensures sent { IsSent line.old line.new agent (carried_body parcel.old) parcel.old.ports.items
+        (answer_with result parcel.new closings.new) }
     ensures left { LeavesIn result parcel.old parcel.new }
     ensures many { IsErrOf result SendRefusal.TooManyPorts
         ↔ (MAX_PORTS < length parcel.old.ports.items) }
@@ -220,7 +220,7 @@ fn send_list<R: Wait>(
     mut parcel: Parcel,
 ) -> Result<Posted, PortError>
     requires { IsSome parcel.body }
-    ensures sent { IsSent line.old line.new agent (body_in parcel) parcel.ports.items result }
+    ensures sent { IsSent line.old line.new agent (carried_body parcel) parcel.ports.items result }
     ensures many { IsTooMany result ↔ (MAX_PORTS < length parcel.ports.items) }
     ensures doomed { IsDoomed result ↔ ((length parcel.ports.items ≤ MAX_PORTS)
         × Contains (ends_of parcel.ports.items) line.old.name.end) }
@@ -237,7 +237,7 @@ fn send_list<R: Wait>(
 #[inline(never)]
 fn turned_back(refusal: SendRefusal, parcel: Parcel) -> Result<Posted, PortError>
     requires { IsSome parcel.body }
-    ensures { result ≡ Err (error_of refusal parcel []) }
+    ensures { result ≡ Err (error_with refusal parcel []) }
 {
     Err(refusal.into_error(parcel, Closings::none()))
 }

@@ -2,7 +2,7 @@ use Rattle.std.proofs.Common.{◌≡◌, ◌<◌, List, [], length, vec_len, Som
 use Rattle.hub_envelope.specs.declared.envelope.Draft.{Draft}
 use Rattle.hub_envelope.specs.declared.ids.EndId.{EndId}
 use Rattle.hub_ports.specs.declared.error.SendRefusal.TheVariants.{Doomed, TooManyPorts, Strayed}
-use Rattle.hub_ports.specs.Refusing.{body_in, text_in}
+use Rattle.hub_ports.specs.Refusing.{carried_body, carried_text}
 use Rattle.hub_ports.specs.Seats.{ends_of}
 use Rattle.hub_ports.specs.Sending.{draft_of}
 use Rattle.hub_ports.proofs.Flights.{flight-whole, flown_back, line-whole}
@@ -26,7 +26,7 @@ returns-in-Err-clause-sent g c = λ closings.
     let named = c.as_slice-in-Err.ensures.value ∙ c.in-Ok.ensures ∙ ap ends_of c.as_slice.ensures.value in
     let all : c.call_back.new.missing.items ≡ [] → c.refused.result ≡ c.in-Err.refusal = λ none. c.refused.ensures.whole (c.as_slice-in-Err-2.ensures.value ∙ none) in
     let some : 0 < length c.call_back.new.missing.items → c.refused.result ≡ Strayed = λ more. c.refused.ensures.strayed (subst (λ (l : List EndId). 0 < length l) (sym c.as_slice-in-Err-2.ensures.value) more) in
-    refused_by_flight c.args.line.now (draft_of c.args.agent (body_in c.args.parcel.now) c.args.parcel.now.ports.items) c.args.parcel.now.ports.items
+    refused_by_flight c.args.line.now (draft_of c.args.agent (carried_body c.args.parcel.now) c.args.parcel.now.ports.items) c.args.parcel.now.ports.items
     (record { body = c.args.parcel.now.body; ports = c.call_back.new.ports; missing = c.call_back.new.missing }) closings
     c.in-Err.refusal c.refused.result c.in-Err.ensures.refusal refl (split-same _ _ _ _ _ _ named refl refl c.call_back.ensures.split) all some
 
@@ -62,7 +62,7 @@ returns-in-Err-clause-flown g c =
 
 pub returns-in-Err-post-clause-sent : goal.returns-in-Err-post-clause-sent
 returns-in-Err-post-clause-sent g c = λ closings.
-    let draft = draft_of c.args.agent (body_in c.args.parcel.now) c.args.parcel.now.ports.items in
+    let draft = draft_of c.args.agent (carried_body c.args.parcel.now) c.args.parcel.now.ports.items in
     let back = c.in-Err-post.ensures.posted.4 in
     let named : c.as_slice-in-Err-post.result.now ≡ draft.ports =
     c.as_slice-in-Err-post.ensures.listed ∙ ap (λ (d : Draft). d.ports) back ∙ c.in-Ok-of_list.ensures.ok ∙ c.in-Ok.ensures ∙ ap ends_of c.as_slice.ensures.value in
@@ -70,7 +70,7 @@ returns-in-Err-post-clause-sent g c = λ closings.
     let some : 0 < length c.call_back-in-Err-post.new.missing.items → c.refused-in-Err-post.result ≡ Strayed = λ more. c.refused-in-Err-post.ensures.strayed (subst (λ (l : List EndId). 0 < length l) (sym c.as_slice-in-Err-post-2.ensures.value) more) in
     refused_by_line c.args.line.now c.post.new.self draft c.args.parcel.now.ports.items
     (record { body = Some c.in-Err-post.draft.body; ports = c.call_back-in-Err-post.new.ports; missing = c.call_back-in-Err-post.new.missing }) closings
-    c.of_line.result c.refused-in-Err-post.result c.in-Err-post.error c.of_line.ensures (ap (λ (d : Draft). d.body) back ∙ ap text_in (sym c.unwrap.ensures ∙ c.take.ensures.value))
+    c.of_line.result c.refused-in-Err-post.result c.in-Err-post.error c.of_line.ensures (ap (λ (d : Draft). d.body) back ∙ ap carried_text (sym c.unwrap.ensures ∙ c.take.ensures.value))
     (split-same _ _ _ _ _ _ named refl refl c.call_back-in-Err-post.ensures.split)
     (same_draft c.args.line.now c.post.new.self _ c.in-Err-post.draft draft c.in-Err-post.error c.in-Err-post.ensures.posted) all some
 

@@ -1,13 +1,19 @@
 use Rattle.std.proofs.Common.{◌≡◌, Some, rules}
 use Rattle.slab.specs.Slab.{get}
+use Rattle.hub_ports.specs.Refusing.{answer_with, carried_body}
 use Rattle.hub_loop.proofs.Posts.{posted-end, same-end, way-lacks, way-posts}
 use Rattle.hub_loop.proofs.ends.HeldEnds.post.Goals as goal
 
 pub invariant_of-self : goal.invariant_of-self
-invariant_of-self g c =
+invariant_of-self g c = record { room = c.args.self.now.room; reached = c.args.self.now.reached }
+
+pub invariant_of-self-2 : goal.invariant_of-self-2
+invariant_of-self-2 g c =
     let old = c.args.self.now in
-    let was : get old.held c.in-Some.key ≡ Some c.in-Some-get_mut.held.now = search rules in
+    let held = c.in_ok-get_mut.field-0.now in
+    let was : get old.held c.in_ok-key.key ≡ Some held = search rules in
     record {
       room = old.room;
-      reached = same-end old.held old.ready c.in-Some.key c.in-Some-get_mut.held.now c.post.new.self was (posted-end c.args.agent c.args.body c.args.transfer.items c.in-Some-get_mut.held.now c.post.new.self c.post.result c.post.ensures.posted c.post.ensures.same) old.reached;
+      reached = same-end old.held old.ready c.in_ok-key.key held c.post.new.self was
+          (posted-end (λ answer. answer_with answer c.post.new.parcel c.post.new.closings) c.args.agent (carried_body c.args.parcel.now) c.args.parcel.now.ports.items held c.post.new.self c.post.result c.post.ensures.posted c.post.ensures.same) old.reached;
     }

@@ -7,10 +7,10 @@ use Rattle.hub_loop.proofs.held.Held.post.Goals as goal
 
 pub returns-in-Port-clause-posted : goal.returns-in-Port-clause-posted
 returns-in-Port-clause-posted g c =
-    let left : PortSeat = c.post.new.self in
-    let same = ap (λ (t : TakerSeat). PortHeld (record { taker = t; poster = left.poster })) c.post.ensures.taker in
-    (c.in-Port.port.poster, left.poster, ap stand_held c.in-Port.is, c.post.ensures.sent, same ∙ sym (ap (λ h. at_stand h left.poster) c.in-Port.is))
+    let left : PortSeat = c.post_parcel.new.self in
+    let same = ap (λ (t : TakerSeat). PortHeld (record { taker = t; poster = left.poster })) c.post_parcel.ensures.taker in
+    (c.in-Port.port.poster, left.poster, ap stand_held c.in-Port.is, c.post_parcel.ensures.sent, same ∙ sym (ap (λ h. at_stand h left.poster) c.in-Port.is))
 
 pub returns-in-Line-clause-posted : goal.returns-in-Line-clause-posted
 returns-in-Line-clause-posted g c =
-    (c.in-Line.line, c.send.new.line, ap stand_held c.in-Line.is, c.send.ensures.sent, sym (ap (λ h. at_stand h c.send.new.line) c.in-Line.is))
+    (c.in-Line.line, c.send_parcel.new.line, ap stand_held c.in-Line.is, c.send_parcel.ensures.sent, sym (ap (λ h. at_stand h c.send_parcel.new.line) c.in-Line.is))
