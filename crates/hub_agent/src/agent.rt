@@ -166,6 +166,7 @@ impl<'s, C: Checkpoint, K: Lends<Roster> + Drop> Agent<'s, C, K> {
             mut peers,
             life: _,
             graves,
+            closings: _,
         } = self;
         match finish_loop(alloc, rt, shared, &mut roster, event_loop, scribe, graves) {
             Ok(log) => Ok(log),
