@@ -1,12 +1,14 @@
 -- The ports of a delivery are adopted one after another.
 use Rattle.std.proofs.Common.{◌≡◌, Bool, true, false, List, [], ◌∷◌, ◌++◌, refl, sym, ap, ◌∙◌, subst, ⊎_elim, inl, inr, append_assoc, append-nil}
+use Rattle.std.specs.List.Sorted.{IsPermutation}
+use Rattle.std.proofs.lemmas.List.Sorted.{IsPermutation-refl, IsPermutation-sym, IsPermutation-to_front, IsPermutation-trans}
 use Rattle.slab.specs.Slab.{Slab, SameValues}
 use Rattle.hub_clients.specs.declared.handed.HandedQueue.{HandedQueue}
 use Rattle.hub_clients.specs.Handing.{taker_of}
 use Rattle.hub_envelope.specs.declared.ids.EndId.{EndId}
 use Rattle.hub_ports.specs.Seats.{PortSeat}
 use Rattle.hub_loop.specs.declared.held.Held.{Held}
-use Rattle.hub_loop.specs.Adopting.{Stored, HoldsMore, SameClosed, SameStored, IsPortBuried, IsOneAdopted, AreAdopted, ArePartlyAdopted, IsFetched, IsQueueAdopted}
+use Rattle.hub_loop.specs.Adopting.{Stored, HoldsMore, SameClosed, SameStored, IsPortBuried, IsOneAdopted, AreAdopted, ArePartlyAdopted, IsFetched, IsQueueAdopted, IsTakenFrom, KeepsFetched}
 use Rattle.hub_loop.specs.States.{ClosedState, ReceivingState}
 
 -- what was held before may be told of another slab that holds the same
@@ -72,6 +74,20 @@ all-done old new before after partly none =
 pub fetched : (held : Bool) (q : HandedQueue) (old new : Stored) (end : EndId) → (taker_of q).end ≡ end.0 → IsQueueAdopted q old new held → IsFetched held old new end
 fetched true q old new end is did = (q, is, did)
 fetched false q old new end is did = inr (q, is, did)
+
+-- the queues that were fetched are those that were
+pub fetched-same : (old new : List HandedQueue) (end : EndId) → new ≡ old → KeepsFetched end old new
+fetched-same old new end same = inl (subst (IsPermutation old) (sym same) (IsPermutation-refl old))
+
+-- a queue that could not be adopted is kept
+pub fetched-kept : (q back : HandedQueue) (old at rest new : List HandedQueue) (end : EndId) → at ≡ old → (taker_of q).end ≡ end.0 → IsTakenFrom q at rest → back ≡ q → new ≡ rest ++ back ∷ [] → KeepsFetched end old new
+fetched-kept q back old at rest new end was is taken same more =
+    let front = IsPermutation-sym (rest ++ q ∷ []) (q ∷ rest) (IsPermutation-to_front rest q) in
+    let behind = subst (IsPermutation (q ∷ rest)) (sym (more ∙ ap (λ b. rest ++ b ∷ []) same)) front in
+    elim taken [
+      | inl none ↦ inr (q, is, subst (λ l. IsPermutation (q ∷ l) new) (none ∙ was) behind)
+      | inr moved ↦ inl (IsPermutation-trans old (q ∷ rest) new (subst (λ l. IsPermutation l (q ∷ rest)) was moved) behind)
+    ]
 
 pub stored-same : (s : Stored) → SameStored s s
 stored-same s = ((λ k. refl), (refl, refl))

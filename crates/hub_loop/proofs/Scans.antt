@@ -1,50 +1,53 @@
 -- Ends that are found at the listener are served first, and those at which nothing was posted are passed over.
-use Rattle.std.proofs.Common.{◌≡◌, ◌⊎◌, ℕ, ◌-◌, ◌<◌, ◌≤◌, Bool, ◌||◌, false, List, [], ◌∷◌, ◌++◌, length, Option, Some, None, inl, inr, refl, sym, ap, ◌∙◌, subst, arith, append-nil, append_assoc}
+use Rattle.std.proofs.Common.{◌≡◌, ◌⊎◌, ℕ, ◌+◌, ◌-◌, ◌<◌, ◌≤◌, Bool, ◌||◌, true, false, List, [], ◌∷◌, ◌++◌, length, Option, Some, None, inl, inr, refl, sym, ap, ◌∙◌, subst, arith, append-nil, append_assoc}
 use Rattle.std.proofs.lemmas.Bool.{cases_lt}
 use Rattle.slab.specs.Slab.{Slab, get}
 use Rattle.hub_bell.specs.declared.board.BoardStep.{BoardStep}
-use Rattle.hub_envelope.specs.declared.envelope.Envelope.{Envelope}
 use Rattle.hub_bell.specs.Seats.{BoardSeat, Done}
 use Rattle.hub_envelope.specs.declared.ids.EndId.{EndId}
 use Rattle.hub_ready.specs.declared.ready.Ready.{Ready}
 use Rattle.hub_ready.specs.Finding.{KeepsMarks, HasStepped, HasRead, WasClear, LeadsTo, FindsAll}
 use Rattle.hub_ready.specs.Marking.{mark_of, HasBit}
 use Rattle.hub_queue.specs.Counting.{Count}
+use Rattle.hub_loop.specs.declared.ends.HeldEnds.{HeldEnds}
 use Rattle.hub_loop.specs.declared.held.Held.{Held}
-use Rattle.hub_loop.specs.Serving.{AskedAll, HasGiven, HasOrder, IsBefore, IsIn, IsPassedOver, IsEndPassedOver, AreServed}
-use Rattle.hub_loop.specs.Scanning.{EndsSeat, IsSameBut, AskedThese, GivenBehind, AskedBefore, AreMarkedAsked, AreMarkedServed, AreAskedBetween, AreAllServed, IsServedMarked, IsServedInside}
+use Rattle.hub_loop.specs.Serving.{AskedAll, HasOrder, IsIn, IsPassedOver, IsEndPassedOver}
+use Rattle.hub_loop.specs.Scanning.{EndsSeat, held_ends, AskedOrUnmarked, StayMarked, HasWalked, AreMarkedServed, AreEachServed, IsServed}
 use Rattle.hub_loop.specs.declared.serving.Served.{Served}
 use Rattle.hub_loop.specs.declared.serving.Served.TheVariants.{Given, Nothing}
+use Rattle.hub_loop.specs.declared.serving.Which.TheVariants.{Marked, Each}
 use Rattle.hub_loop.specs.Holding.{end_held}
 use Rattle.hub_loop.specs.Reaching.{IsReached, AreReached}
 use Rattle.std.proofs.lemmas.List.{get_or_past}
 use Rattle.hub_loop.proofs.Reaches.{all-move}
-use Rattle.hub_loop.proofs.Serves.{mark-cases, asked-join, order-before, before-join, before-behind, before-whole, these-join, behind-join}
+use Rattle.hub_loop.proofs.Serves.{mark-cases, in-right, unmarked-before, order-later, order-before, order-join, came-join}
 
--- ends were found at the listener, and none was asked
-pub found-same : (old new : EndsSeat) → new.ready.listed ≡ old.ready.listed → KeepsMarks old.ready.marks new.ready.marks → new.next ≡ old.next → new.held.capacity ≡ old.held.capacity → IsSameBut [] old new
-found-same old new listed keeps next capacity = record { bits = keeps.0; stay = λ key marked. inr (keeps.1 key marked); listed = listed; next = next; capacity = capacity }
+-- the listener was looked at, and these are the marks then
+pub record Gathered (old mid : Ready) (looks : List BoardStep) : Type 0 where
+  pub keeps : KeepsMarks old.marks mid.marks
+  pub listed : mid.listed ≡ old.listed
+  pub finds : FindsAll mid.listed.items mid.marks looks
+
+-- what is not marked then was not marked before
+unmarked-found : (old mid : List ℕ) (key : ℕ) → KeepsMarks old mid → mark_of mid key ≡ 0 → mark_of old key ≡ 0
+unmarked-found old mid key keeps clear =
+    elim (mark-cases old key) [
+      | inl none ↦ none
+      | inr set ↦ absurd (let still = keeps.1 key set in omega (arith, clear, still))
+    ]
 
 -- more may be marked, and what is listed is the same
 pub gathered : (slots : Slab Held) (r q : Ready) → KeepsMarks r.marks q.marks → q.listed ≡ r.listed → AreReached slots r → AreReached slots q
 gathered slots r q keeps listed reached =
     all-move slots r q (λ key. record {
       bits = omega (arith, keeps.0);
-      marks = λ has clear.
-          elim (mark-cases r.marks key) [
-            | inl none ↦ none
-            | inr set ↦ absurd (let still = keeps.1 key set in omega (arith, clear, still))
-          ];
+      marks = λ has clear. unmarked-found r.marks q.marks key keeps clear;
       listed = λ end leads. subst (λ l. LeadsTo l.items end key) (sym listed) leads;
     }) reached
 
 -- no steps
 pub no-steps : (a : BoardSeat) → HasStepped a a []
 no-steps a = (refl, ap (λ (steps : List BoardStep). record a.at { steps = steps }) (sym (append-nil a.at.steps)))
-
--- nothing was asked
-pub asked-nothing : (old new : EndsSeat) (count : Count) → new.held ≡ old.held → IsSameBut [] old new → AskedThese [] old new count count false
-asked-nothing old new count held same = record { asked = (held, refl, refl); same = same }
 
 -- steps behind steps
 pub steps-join : (a b c : BoardSeat) (front back : List BoardStep) → HasStepped a b front → HasStepped b c back → HasStepped a c (front ++ back)
@@ -66,147 +69,140 @@ clear-left end front back clear =
       | inr bit ↦ inr (bit.0, read-left _ bit.0 front back bit.1, bit.2)
     ]
 
--- ends were found at the listener between
-these-found : (keys : List ℕ) (old mid new : EndsSeat) (before after : Count) (busy : Bool) → IsSameBut [] old mid → mid.held ≡ old.held → AskedThese keys mid new before after busy → AskedThese keys old new before after busy
-these-found keys old mid new before after busy same held these = record {
-  asked = subst (λ s. AskedAll keys s new.held before after busy) held these.asked;
-  same = record {
-    bits = these.same.bits ∙ same.bits;
-    stay = λ key marked.
-        elim (same.stay key marked) [
-          | inl is ↦ absurd is
-          | inr still ↦ these.same.stay key still
-        ];
-    listed = these.same.listed ∙ same.listed;
-    next = these.same.next ∙ same.next;
-    capacity = these.same.capacity ∙ same.capacity;
-  };
-}
-
-behind-found : (keys : List ℕ) (old mid new : EndsSeat) (before after : Count) (key : ℕ) (v : Envelope) → IsSameBut [] old mid → mid.held ≡ old.held → GivenBehind keys mid new before after key v → GivenBehind keys old new before after key v
-behind-found keys old mid new before after key v same held given = record {
-  given = subst (λ s. HasGiven keys s new.held before after key v) held given.given;
-  inside = subst (λ s. key < s.capacity) held given.inside;
-  fits = given.fits;
-  marked = given.marked;
-  listed = given.listed ∙ same.listed;
-  next = given.next ∙ same.next;
-  capacity = given.capacity ∙ same.capacity;
-}
-
--- what was not marked after they were found was not marked before
-unmarked-found : (old mid : EndsSeat) (key : ℕ) → IsSameBut [] old mid → mark_of mid.ready.marks key ≡ 0 → mark_of old.ready.marks key ≡ 0
-unmarked-found old mid key same clear =
-    elim (mark-cases old.ready.marks key) [
-      | inl none ↦ none
-      | inr set ↦
-          elim (same.stay key set) [
-            | inl is ↦ absurd is
-            | inr stays ↦ absurd (omega (arith, clear, stays))
-          ]
-    ]
-
-before-found : (key : ℕ) (keys : List ℕ) (old mid : EndsSeat) → IsSameBut [] old mid → AskedBefore mid.next mid.held.capacity key keys mid.ready.marks → AskedBefore old.next old.held.capacity key keys old.ready.marks
-before-found key keys old mid same asked other is less =
-    elim (asked other (subst (λ n. IsBefore n other key) (sym same.next) is) (subst (λ n. other < n) (sym same.capacity) less)) [
-      | inl was ↦ inl was
-      | inr clear ↦ inr (unmarked-found old mid other same clear)
-    ]
-
--- the marked ends were served once ends were found
-pub rung-served : (old mid new : EndsSeat) (before after : Count) (served : Served) → IsSameBut [] old mid → mid.held ≡ old.held → AreMarkedServed mid new before after served → AreMarkedServed old new before after served
-rung-served old mid new before after (Given key v) same held came =
-    (came.0, behind-found came.0 old mid new before after key v same held came.1, before-found key came.0 old mid same came.2)
-rung-served old mid new before after (Nothing busy) same held came =
-    (came.0, these-found came.0 old mid new before after busy same held came.1)
-
--- the marked ends behind the next key gave none, and then those before it were asked
-pub marked-behind : (high : ℕ) (old mid new : EndsSeat) (before c after : Count) (ahead : Bool) (served : Served) → high ≡ old.held.capacity → AreMarkedAsked old.next high old mid before c (Nothing ahead) → AreMarkedAsked 0 old.next mid new c after served → ((busy : Bool) → served ≡ Nothing busy → ⊥) → AreMarkedServed old new before after served
-marked-behind high old mid new before c after ahead (Given key v) whole first second other = (
-  second.0 ++ first.0,
-  behind-join first.0 second.0 old mid new before c after ahead key v first.1 second.1,
-  subst (λ n. AskedBefore old.next n key (second.0 ++ first.0) old.ready.marks) whole
-      (before-behind old.next key high first.0 second.0 old mid first.1.same first.2 second.4 second.3),
-)
-marked-behind high old mid new before c after ahead (Nothing busy) whole first second other = absurd (other busy refl)
-
--- an end that was found gave an envelope while all were asked
-pub between-rung : (low high : ℕ) (keys : List ℕ) (old mid new : EndsSeat) (before c after : Count) (was : Bool) (served : Served) → AskedThese keys old mid before c was → high ≤ old.held.capacity → AreMarkedServed mid new c after served → ((busy : Bool) → served ≡ Nothing busy → ⊥) → AreAskedBetween low high old new before after served
-between-rung low high keys old mid new before c after was (Given key v) first le second other = (
-  second.0 ++ keys,
-  behind-join keys second.0 old mid new before c after was key v first second.1,
-  before-join old.next high mid.held.capacity key keys second.0 old mid first.same
-      (let same = first.same.capacity in omega (arith, le, same))
-      (subst (λ n. AskedBefore n mid.held.capacity key second.0 mid.ready.marks) first.same.next second.2),
-)
-between-rung low high keys old mid new before c after was (Nothing busy) first le second other = absurd (other busy refl)
-
--- the ends from the next key on gave none, and then those before it were asked
-pub all-behind : (high : ℕ) (old mid new : EndsSeat) (before c after : Count) (ahead : Bool) (served : Served) → high ≡ old.held.capacity → AreAskedBetween old.next high old mid before c (Nothing ahead) → AreAskedBetween 0 old.next mid new c after served → ((busy : Bool) → served ≡ Nothing busy → ⊥) → AreAllServed old new before after served
-all-behind high old mid new before c after ahead (Given key v) whole first second other = (
-  second.0 ++ first.0,
-  behind-join first.0 second.0 old mid new before c after ahead key v first.1 second.1,
-  before-whole old.next key old.held.capacity first.0 second.0 old mid first.1.same
-      (subst (λ n. HasOrder old.next (n - old.next) first.0) whole first.2)
-      (subst (λ n. AskedBefore n old.next key second.0 mid.ready.marks) first.1.same.next second.2),
-)
-all-behind high old mid new before c after ahead (Nothing busy) whole first second other = absurd (other busy refl)
-
-pub all-ahead : (high : ℕ) (old new : EndsSeat) (before after : Count) (served : Served) → high ≡ old.held.capacity → AreAskedBetween old.next high old new before after served → ((busy : Bool) → served ≡ Nothing busy → ⊥) → AreAllServed old new before after served
-all-ahead high old new before after (Given key v) whole came other =
-    (came.0, came.1, subst (λ n. AskedBefore old.next n key came.0 old.ready.marks) whole came.2)
-all-ahead high old new before after (Nothing busy) whole came other = absurd (other busy refl)
-
-pub all-nothing : (high : ℕ) (old mid new : EndsSeat) (before c after : Count) (ahead busy : Bool) → high ≡ old.held.capacity → AreAskedBetween old.next high old mid before c (Nothing ahead) → AreAskedBetween 0 old.next mid new c after (Nothing busy) → AreAllServed old new before after (Nothing (busy || ahead))
-all-nothing high old mid new before c after ahead busy whole first second =
-    let none : old.next - 0 ≡ old.next = omega arith in (
-      second.0 ++ first.0,
-      these-join first.0 second.0 old mid new before c after ahead busy first.1 second.1,
-      (second.0, first.0, refl, subst (λ n. HasOrder old.next (n - old.next) first.0) whole first.2, subst (λ n. HasOrder 0 n second.0) none second.2),
-    )
-
--- a marked end from the next key on gave an envelope
-pub marked-ahead : (high : ℕ) (old new : EndsSeat) (before after : Count) (served : Served) → AreMarkedAsked old.next high old new before after served → ((busy : Bool) → served ≡ Nothing busy → ⊥) → AreMarkedServed old new before after served
-marked-ahead high old new before after (Given key v) came other = (
-  came.0,
-  came.1,
-  λ end is below.
-      elim is [
-        | inl here ↦ came.4 end here.0 here.1
-        | inr past ↦ absurd (omega (arith, past.0, came.2))
-      ],
-)
-marked-ahead high old new before after (Nothing busy) came other = absurd (other busy refl)
-
--- an end that isn't marked once ends were found is passed over
-passed-end : (end : Option EndId) (held : Held) (old mid : EndsSeat) (key : ℕ) (looks : List BoardStep) → end_held held ≡ end → IsReached old.ready key held → IsSameBut [] old mid → FindsAll mid.ready.listed.items mid.ready.marks looks → mark_of mid.ready.marks key ≡ 0 → IsEndPassedOver end (mark_of old.ready.marks key) looks
-passed-end None held old mid key looks is reached same finds clear = tt
-passed-end (Some end) held old mid key looks is reached same finds clear =
-    let none = unmarked-found old mid key same clear in
-    let leads : LeadsTo mid.ready.listed.items end key = subst (λ l. LeadsTo l.items end key) (sym same.listed) (reached.1 end is none) in
-    let has : HasBit mid.ready.marks key = omega (arith, reached.0, same.bits) in (
+-- an end that isn't marked then is passed over
+passed-end : (end : Option EndId) (held : Held) (old mid : Ready) (key : ℕ) (looks : List BoardStep) → end_held held ≡ end → IsReached old key held → Gathered old mid looks → mark_of mid.marks key ≡ 0 → IsEndPassedOver end (mark_of old.marks key) looks
+passed-end None held old mid key looks is reached found clear = tt
+passed-end (Some end) held old mid key looks is reached found clear =
+    let none = unmarked-found old.marks mid.marks key found.keeps clear in
+    let leads : LeadsTo mid.listed.items end key = subst (λ l. LeadsTo l.items end key) (sym found.listed) (reached.1 end is none) in
+    let has : HasBit mid.marks key = omega (arith, reached.0, found.keeps.0) in (
       none,
-      elim (finds end key leads has) [
+      elim (found.finds end key leads has) [
         | inl marked ↦ absurd (omega (arith, clear, marked))
         | inr was ↦ was
       ],
     )
 
-passed-slot : (slot : Option Held) (old mid : EndsSeat) (key : ℕ) (looks : List BoardStep) → get old.held key ≡ slot → IsSameBut [] old mid → AreReached old.held old.ready → FindsAll mid.ready.listed.items mid.ready.marks looks → mark_of mid.ready.marks key ≡ 0 → IsPassedOver slot (mark_of old.ready.marks key) looks
-passed-slot None old mid key looks is same reached finds clear = tt
-passed-slot (Some held) old mid key looks is same reached finds clear = passed-end (end_held held) held old mid key looks refl (reached key held is) same finds clear
+passed-slot : (slot : Option Held) (slots : Slab Held) (old mid : Ready) (key : ℕ) (looks : List BoardStep) → get slots key ≡ slot → AreReached slots old → Gathered old mid looks → mark_of mid.marks key ≡ 0 → IsPassedOver slot (mark_of old.marks key) looks
+passed-slot None slots old mid key looks is reached found clear = tt
+passed-slot (Some held) slots old mid key looks is reached found clear = passed-end (end_held held) held old mid key looks refl (reached key held is) found clear
 
--- each end before the one that gave was asked or passed over
-passed : (key : ℕ) (keys : List ℕ) (old mid : EndsSeat) (looks : List BoardStep) → length old.held.slots ≤ old.held.capacity → mid.held ≡ old.held → IsSameBut [] old mid → AreReached old.held old.ready → FindsAll mid.ready.listed.items mid.ready.marks looks → AskedBefore mid.next mid.held.capacity key keys mid.ready.marks → (other : ℕ) → IsBefore old.next other key → IsIn other keys ⊎ IsPassedOver (get old.held other) (mark_of old.ready.marks other) looks
-passed key keys old mid looks within held same reached finds asked other is =
-    elim (cases_lt other old.held.capacity) [
-      | inl inside ↦
-          elim (asked other (subst (λ n. IsBefore n other key) (sym same.next) is) (subst (λ n. other < n) (sym same.capacity) inside)) [
-            | inl was ↦ inl was
-            | inr clear ↦ inr (passed-slot (get old.held other) old mid other looks refl same reached finds clear)
-          ]
-      | inr past ↦ inr (let none : get old.held other ≡ None = get_or_past old.held.slots other None (omega (arith, within, past)) in subst (λ slot. IsPassedOver slot (mark_of old.ready.marks other) looks) (sym none) tt)
+passed-key : (slots : Slab Held) (old mid : Ready) (key : ℕ) (keys : List ℕ) (looks : List BoardStep) → AreReached slots old → Gathered old mid looks → IsIn key keys ⊎ (mark_of mid.marks key ≡ 0) → IsIn key keys ⊎ IsPassedOver (get slots key) (mark_of old.marks key) looks
+passed-key slots old mid key keys looks reached found asked =
+    elim asked [
+      | inl was ↦ inl was
+      | inr clear ↦ inr (passed-slot (get slots key) slots old mid key looks refl reached found clear)
     ]
+
+-- where no key can be nothing is held
+passed-past : (slots : Slab Held) (mark key : ℕ) (looks : List BoardStep) → length slots.slots ≤ slots.capacity → slots.capacity ≤ key → IsPassedOver (get slots key) mark looks
+passed-past slots mark key looks within past =
+    let none : get slots key ≡ None = get_or_past slots.slots key None (omega (arith, within, past)) in
+    subst (λ slot. IsPassedOver slot mark looks) (sym none) tt
+
+-- the marked ones were walked from the next key on, and then those before it up to this one
+passed-behind : (old : HeldEnds) (mid : Ready) (bound : ℕ) (keys more marks : List ℕ) (looks : List BoardStep) → length old.held.slots ≤ old.held.capacity → Gathered old.ready mid looks → AskedOrUnmarked old.next old.held.capacity keys mid.marks → StayMarked keys mid.marks marks → AskedOrUnmarked 0 bound more marks → (key : ℕ) → (old.next ≤ key) ⊎ (key < bound) → IsIn key (more ++ keys) ⊎ IsPassedOver (get old.held key) (mark_of old.ready.marks key) looks
+passed-behind old mid bound keys more marks looks within found ahead stay behind key place =
+    let passed = passed-key old.held old.ready mid key (more ++ keys) looks old.reached found in
+    elim place [
+      | inl past ↦
+          elim (cases_lt key old.held.capacity) [
+            | inl inside ↦
+                elim (ahead key past inside) [
+                  | inl was ↦ inl (in-right key more keys was)
+                  | inr clear ↦ passed (inr clear)
+                ]
+            | inr out ↦ inr (passed-past old.held (mark_of old.ready.marks key) key looks within out)
+          ]
+      | inr before ↦ passed (unmarked-before keys more mid.marks marks key stay (behind key (omega arith) before))
+    ]
+
+-- a marked end from the next key on gave an envelope
+pub marked-ahead : (high : ℕ) (old new : HeldEnds) (mid : Ready) (heard hears : BoardSeat) (looks : List BoardStep) (before after : Count) (was : Bool) (served : Served) → HasStepped heard hears looks → Gathered old.ready mid looks → HasWalked Marked old.next high (record { held = old.held; marks = mid.marks }) (held_ends new) before after was served → ((busy : Bool) → served ≡ Nothing busy → ⊥) → AreMarkedServed old new heard hears before after was served
+marked-ahead high old new mid heard hears looks before after was (Given key v) stepped found walked other = (
+  looks,
+  stepped,
+  walked.0,
+  walked.1,
+  λ end is.
+      elim is [
+        | inl here ↦ passed-key old.held old.ready mid end walked.0 looks old.reached found (walked.2 end here.0 here.1)
+        | inr wraps ↦ absurd (omega (arith, wraps.0, walked.3))
+      ],
+)
+marked-ahead high old new mid heard hears looks before after was (Nothing busy) stepped found walked other = absurd (other busy refl)
+
+-- the marked ends from the next key on gave none, and then those before it were walked
+pub marked-behind : (high : ℕ) (old new : HeldEnds) (mid : Ready) (then : EndsSeat) (heard hears : BoardSeat) (looks : List BoardStep) (before c after : Count) (was busy : Bool) (served : Served) → HasStepped heard hears looks → Gathered old.ready mid looks → length old.held.slots ≤ old.held.capacity → high ≡ old.held.capacity → HasWalked Marked old.next high (record { held = old.held; marks = mid.marks }) then before c was (Nothing busy) → HasWalked Marked 0 old.next then (held_ends new) c after busy served → AreMarkedServed old new heard hears before after was served
+marked-behind high old new mid then heard hears looks before c after was busy (Given key v) stepped found within whole first second = (
+  looks,
+  stepped,
+  second.0 ++ first.0,
+  came-join first.0 second.0 old.held then.held new.held before c after was busy (Given key v) first.1 second.1,
+  λ end is.
+      elim is [
+        | inl here ↦ absurd (omega (arith, here.0, here.1, second.4))
+        | inr wraps ↦
+            passed-behind old mid key first.0 second.0 then.marks looks within found
+            (subst (λ n. AskedOrUnmarked old.next n first.0 mid.marks) whole first.2) first.3 second.2 end wraps.1
+      ],
+)
+marked-behind high old new mid then heard hears looks before c after was busy (Nothing now) stepped found within whole first second = (
+  looks,
+  stepped,
+  second.0 ++ first.0,
+  came-join first.0 second.0 old.held then.held new.held before c after was busy (Nothing now) first.1 second.1,
+  λ end is.
+      passed-behind old mid old.next first.0 second.0 then.marks looks within found
+      (subst (λ n. AskedOrUnmarked old.next n first.0 mid.marks) whole first.2) first.3 second.2 end
+      (elim (cases_lt end old.next) [
+        | inl less ↦ inr less
+        | inr past ↦ inl past
+      ]),
+)
+
+-- no end of a range was asked yet
+pub each-none : (low : ℕ) (at : HeldEnds) (heard : BoardSeat) (count : Count) (was : Bool) → AreEachServed low low at at heard heard count count was (Nothing was)
+each-none low at heard count was =
+    let none : low - low ≡ 0 = omega arith in
+    ([], no-steps heard, [], (false, (refl, refl, refl), refl), subst (λ n. HasOrder low n []) (sym none) tt)
+
+-- the next part of it was walked
+pub each-walked : (low from to : ℕ) (old mid new : HeldEnds) (heard hears : BoardSeat) (before c after : Count) (was busy : Bool) (served : Served) → low ≤ from → from ≤ to → AreEachServed low from old mid heard hears before c was (Nothing busy) → HasWalked Each from to (held_ends mid) (held_ends new) c after busy served → AreEachServed low to old new heard hears before after was served
+each-walked low from to old mid new heard hears before c after was busy (Given key v) above le first walked =
+    (first.0, first.1, walked.0 ++ first.2, came-join first.2 walked.0 old.held mid.held new.held before c after was busy (Given key v) first.3 walked.1, tt)
+each-walked low from to old mid new heard hears before c after was busy (Nothing now) above le first walked =
+    let there : from ≡ low + (from - low) = omega (arith, above) in
+    let all : (to - from) + (from - low) ≡ to - low = omega (arith, above, le) in (
+      first.0,
+      first.1,
+      walked.0 ++ first.2,
+      came-join first.2 walked.0 old.held mid.held new.held before c after was busy (Nothing now) first.3 walked.1,
+      subst (λ n. HasOrder low n (walked.0 ++ first.2)) all
+          (order-join low (from - low) (to - from) first.2 walked.0 first.4 (subst (λ n. HasOrder n (to - from) walked.0) there walked.2)),
+    )
+
+-- then the marked ones were served
+pub each-marked : (low from : ℕ) (old mid new : HeldEnds) (heard middle hears : BoardSeat) (before c after : Count) (was busy : Bool) (served : Served) → AreEachServed low from old mid heard middle before c was (Nothing busy) → AreMarkedServed mid new middle hears c after busy served → AreEachServed low from old new heard hears before after was served
+each-marked low from old mid new heard middle hears before c after was busy (Given key v) first second = (
+  first.0 ++ second.0,
+  steps-join heard middle hears first.0 second.0 first.1 second.1,
+  second.2 ++ first.2,
+  came-join first.2 second.2 old.held mid.held new.held before c after was busy (Given key v) first.3 second.3,
+  tt,
+)
+each-marked low from old mid new heard middle hears before c after was busy (Nothing now) first second = (
+  first.0 ++ second.0,
+  steps-join heard middle hears first.0 second.0 first.1 second.1,
+  second.2 ++ first.2,
+  came-join first.2 second.2 old.held mid.held new.held before c after was busy (Nothing now) first.3 second.3,
+  order-later low (from - low) first.2 second.2 first.4,
+)
+
+-- where an end gave an envelope the range doesn't matter
+pub each-given : (low to high : ℕ) (old new : HeldEnds) (heard hears : BoardSeat) (before after : Count) (was : Bool) (served : Served) → AreEachServed low to old new heard hears before after was served → ((busy : Bool) → served ≡ Nothing busy → ⊥) → AreEachServed low high old new heard hears before after was served
+each-given low to high old new heard hears before after was (Given key v) came other = came
+each-given low to high old new heard hears before after was (Nothing busy) came other = absurd (other busy refl)
 
 end-more : (end : Option EndId) (mark : ℕ) (front back : List BoardStep) → IsEndPassedOver end mark front → IsEndPassedOver end mark (front ++ back)
 end-more None mark front back over = tt
@@ -217,55 +213,59 @@ passed-more None mark front back over = tt
 passed-more (Some held) mark front back over = end-more (end_held held) mark front back over
 
 -- a marked end gave an envelope
-pub marked-first : (old mid new : EndsSeat) (looks : List BoardStep) (before after : Count) (served : Served) → length old.held.slots ≤ old.held.capacity → mid.held ≡ old.held → IsSameBut [] old mid → AreReached old.held old.ready → FindsAll mid.ready.listed.items mid.ready.marks looks → AreMarkedServed mid new before after served → ((busy : Bool) → served ≡ Nothing busy → ⊥) → AreServed old.next old.held new.held old.ready.marks looks before after served
-marked-first old mid new looks before after (Given key v) within held same reached finds came other = (
-  came.0,
-  subst (λ s. HasGiven came.0 s new.held before after key v) held came.1.given,
-  passed key came.0 old mid looks within held same reached finds came.2,
+pub served-first : (old new : HeldEnds) (heard hears : BoardSeat) (before after : Count) (was : Bool) (served : Served) → AreMarkedServed old new heard hears before after was served → ((busy : Bool) → served ≡ Nothing busy → ⊥) → IsServed old new heard hears before after served
+served-first old new heard hears before after was (Given key v) came other = (came.0, came.1, (came.2, came.3, came.4))
+served-first old new heard hears before after was (Nothing busy) came other = absurd (other busy refl)
+
+-- no marked end gave one: each was asked or passed over, so that it doesn't matter in which order the others are asked then
+pub served-then : (low high : ℕ) (old mid new : HeldEnds) (heard middle hears : BoardSeat) (before c after : Count) (was busy : Bool) (served : Served) → AreMarkedServed old mid heard middle before c was (Nothing busy) → AreEachServed low high mid new middle hears c after busy served → ((now : Bool) → served ≡ Nothing now → ⊥) → IsServed old new heard hears before after served
+served-then low high old mid new heard middle hears before c after was busy (Given key v) first second other = (
+  first.0 ++ second.0,
+  steps-join heard middle hears first.0 second.0 first.1 second.1,
+  (
+    second.2 ++ first.2,
+    came-join first.2 second.2 old.held mid.held new.held before c after was busy (Given key v) first.3 second.3,
+    λ end is.
+        elim (first.4 end tt) [
+          | inl one ↦ inl (in-right end second.2 first.2 one)
+          | inr over ↦ inr (passed-more (get old.held end) (mark_of old.ready.marks end) first.0 second.0 over)
+        ],
+  ),
 )
-marked-first old mid new looks before after (Nothing busy) within held same reached finds came other = absurd (other busy refl)
+served-then low high old mid new heard middle hears before c after was busy (Nothing now) first second other = absurd (other now refl)
 
--- no marked end gave one, and then all were asked
-pub all-first : (old mid then new : EndsSeat) (looks more : List BoardStep) (before c after : Count) (was : Bool) (served : Served) → length old.held.slots ≤ old.held.capacity → mid.held ≡ old.held → IsSameBut [] old mid → AreReached old.held old.ready → FindsAll mid.ready.listed.items mid.ready.marks looks → AreMarkedServed mid then before c (Nothing was) → AreAllServed then new c after served → ((busy : Bool) → served ≡ Nothing busy → ⊥) → AreServed old.next old.held new.held old.ready.marks (looks ++ more) before after served
-all-first old mid then new looks more before c after was (Given key v) within held same reached finds first second other =
-    let keys = second.0 ++ first.0 in
-    let given = behind-join first.0 second.0 mid then new before c after was key v first.1 second.1 in
-    let asked = before-join mid.next mid.held.capacity then.held.capacity key first.0 second.0 mid then first.1.same
-    (let cap = first.1.same.capacity in omega (arith, cap))
-    (subst (λ n. AskedBefore n then.held.capacity key second.0 then.ready.marks) first.1.same.next second.2) in (
-      keys,
-      subst (λ s. HasGiven keys s new.held before after key v) held given.given,
-      λ n is.
-          elim (passed key keys old mid looks within held same reached finds asked n is) [
-            | inl one ↦ inl one
-            | inr over ↦ inr (passed-more (get old.held n) (mark_of old.ready.marks n) looks more over)
-          ],
+or-false : (b : Bool) → (b || false) ≡ b
+or-false true = refl
+or-false false = refl
+
+-- no end from the next key on gave one either, and then those before it were asked
+pub served-last : (high : ℕ) (old mid then new : HeldEnds) (heard middle later hears : BoardSeat) (before c d after : Count) (marked ahead : Bool) (served : Served) → high ≡ old.held.capacity → AreMarkedServed old mid heard middle before c false (Nothing marked) → AreEachServed old.next high mid then middle later c d marked (Nothing ahead) → AreEachServed 0 old.next then new later hears d after ahead served → IsServed old new heard hears before after served
+served-last high old mid then new heard middle later hears before c d after marked ahead (Given key v) whole first second third =
+    served-then 0 old.next old mid new heard middle hears before c after false marked (Given key v) first (
+      second.0 ++ third.0,
+      steps-join middle later hears second.0 third.0 second.1 third.1,
+      third.2 ++ second.2,
+      came-join second.2 third.2 mid.held then.held new.held c d after marked ahead (Given key v) second.3 third.3,
+      tt,
     )
-all-first old mid then new looks more before c after was (Nothing busy) within held same reached finds first second other = absurd (other busy refl)
-
-pub nothing-first : (old mid then new : EndsSeat) (looks : List BoardStep) (before c after : Count) (was busy : Bool) → mid.held ≡ old.held → IsSameBut [] old mid → AreMarkedServed mid then before c (Nothing was) → AreAllServed then new c after (Nothing busy) → AreServed old.next old.held new.held old.ready.marks looks before after (Nothing (busy || was))
-nothing-first old mid then new looks before c after was busy held same first second =
-    let order = second.2 in
-    let all = asked-join first.0 second.0 mid.held then.held new.held before c after was busy first.1.asked second.1.asked in
-    let next : then.next ≡ old.next = first.1.same.next ∙ same.next in
-    let capacity : then.held.capacity ≡ old.held.capacity = first.1.same.capacity ∙ same.capacity in
-    let ahead = order-before then.next (then.held.capacity - then.next) order.1 first.0 order.3 in (
-      second.0 ++ first.0,
-      subst (λ s. AskedAll (second.0 ++ first.0) s new.held before after (busy || was)) held all,
+    (λ now is. absurd cc)
+served-last high old mid then new heard middle later hears before c d after marked ahead (Nothing now) whole first second third =
+    let keys = second.2 ++ first.2 in
+    let looks = first.0 ++ second.0 in
+    let none : old.next - 0 ≡ old.next = omega arith in
+    let two = came-join first.2 second.2 old.held mid.held then.held before c d false marked (Nothing ahead) first.3 second.3 in
+    let all = came-join keys third.2 old.held then.held new.held before d after false ahead (Nothing now) two third.3 in (
+      looks ++ third.0,
+      steps-join heard later hears looks third.0 (steps-join heard middle later first.0 second.0 first.1 second.1) third.1,
       (
-        order.0,
-        order.1 ++ first.0,
-        ap (λ ks. ks ++ first.0) order.2 ∙ append_assoc order.0 order.1 first.0,
-        subst (λ n. HasOrder n (old.held.capacity - n) (order.1 ++ first.0)) next (subst (λ m. HasOrder then.next (m - then.next) (order.1 ++ first.0)) capacity ahead),
-        subst (λ n. HasOrder 0 n order.0) next order.4,
+        third.2 ++ keys,
+        subst (AskedAll (third.2 ++ keys) old.held new.held before after) (sym (all.2 ∙ or-false all.0)) all.1,
+        (
+          third.2,
+          keys,
+          refl,
+          subst (λ n. HasOrder old.next (n - old.next) keys) whole (order-before old.next (high - old.next) second.2 first.2 second.4),
+          subst (λ n. HasOrder 0 n third.2) none third.4,
+        ),
       ),
     )
-
--- where the key of an end that gave stands
-pub inside-marked : (old new : EndsSeat) (before after : Count) (served : Served) → AreMarkedServed old new before after served → IsServedMarked new.ready.marks served × IsServedInside new.held.capacity served
-inside-marked old new before after (Given key v) came = (came.1.marked, (let same = came.1.capacity in omega (arith, same, came.1.inside), came.1.fits))
-inside-marked old new before after (Nothing busy) came = (tt, tt)
-
-pub inside-all : (old new : EndsSeat) (before after : Count) (served : Served) → AreAllServed old new before after served → IsServedMarked new.ready.marks served × IsServedInside new.held.capacity served
-inside-all old new before after (Given key v) came = (came.1.marked, (let same = came.1.capacity in omega (arith, same, came.1.inside), came.1.fits))
-inside-all old new before after (Nothing busy) came = (tt, tt)

@@ -1,18 +1,20 @@
 -- The ends are asked in turn.
-use Rattle.std.proofs.Common.{◌≡◌, ◌⊎◌, ℕ, zero, suc, ◌+◌, ◌-◌, ◌^◌, ◌<◌, ◌≤◌, Bool, true, false, ◌||◌, List, [], ◌∷◌, ◌++◌, Option, Some, None, inl, inr, refl, sym, ap, ◌∙◌, subst, arith, append_assoc, get_or-set_other}
+use Rattle.std.proofs.Common.{◌≡◌, ◌⊎◌, ℕ, zero, suc, ◌+◌, ◌-◌, ◌<◌, ◌≤◌, Bool, true, false, ◌||◌, List, [], ◌∷◌, ◌++◌, Option, Some, None, inl, inr, refl, sym, ap, ◌∙◌, subst, arith, append_assoc, get_or-set_other}
 use Rattle.std.proofs.lemmas.Bool.{cases_eq, cases_lt}
 use Rattle.slab.specs.Slab.{Slab, get, with_value}
 use Rattle.hub_envelope.specs.declared.envelope.Envelope.{Envelope}
-use Rattle.hub_ready.specs.Marking.{mark_of, ClearBetween, SameBut}
+use Rattle.hub_ready.specs.Marking.{mark_of, SameBut}
 use Rattle.hub_queue.specs.Counting.{Count}
 use Rattle.hub_loop.specs.declared.held.Held.{Held}
 use Rattle.hub_queue.specs.declared.taker.Took.{Took}
 use Rattle.hub_queue.specs.declared.taker.Took.TheVariants.{Got, Empty, Busy, Again, Disabled, Closed}
 use Rattle.hub_loop.specs.Asking.{IsHeldAsked}
 use Rattle.hub_loop.specs.Serving.{served_by, IsSlotAsked, IsTakenAtKey, IsAskedAt, AskedAll, HasGiven, HasOrder, IsIn}
-use Rattle.hub_loop.specs.Scanning.{EndsSeat, IsSameBut, AskedThese, GivenBehind, AskedBefore, AskedOrUnmarked, IsRange}
+use Rattle.hub_loop.specs.Scanning.{EndsSeat, CameTo, HasPassedKeys, HasWalked, NoneBetween, StayMarked}
 use Rattle.hub_loop.specs.declared.serving.Served.{Served}
 use Rattle.hub_loop.specs.declared.serving.Served.TheVariants.{Given, Nothing}
+use Rattle.hub_loop.specs.declared.serving.Which.{Which}
+use Rattle.hub_loop.specs.declared.serving.Which.TheVariants.{Marked, Each}
 use Rattle.hub_loop.proofs.Reaches.{written}
 
 -- what is held under a key was asked
@@ -108,178 +110,122 @@ order-before low zero keys more order = tt
 order-before low (suc n) keys more order =
     (order.0, order.1 ++ more, ap (λ ks. ks ++ more) order.2 ∙ append_assoc order.0 ((low + n) ∷ order.1) more, order-before low n order.1 more order.3)
 
-pub order-more : (low key : ℕ) (keys more : List ℕ) → low ≤ key → HasOrder low (key - low) keys → HasOrder low (key + 1 - low) (key ∷ more ++ keys)
-order-more low key keys more le order =
+-- the keys of a range, and then those of the next one
+pub order-join : (low m n : ℕ) (keys more : List ℕ) → HasOrder low m keys → HasOrder (low + m) n more → HasOrder low (n + m) (more ++ keys)
+order-join low m zero keys more first second =
+    let none : m ≡ 0 + m = omega arith in subst (λ n. HasOrder low n (more ++ keys)) none (order-later low m keys more first)
+order-join low m (suc n) keys more first second =
+    let one : suc (n + m) ≡ suc n + m = omega arith in
+    let there : (low + m) + n ≡ low + (n + m) = omega arith in
+    subst (λ count. HasOrder low count (more ++ keys)) one (
+      second.0,
+      second.1 ++ keys,
+      ap (λ ks. ks ++ keys) second.2 ∙ append_assoc second.0 (((low + m) + n) ∷ second.1) keys ∙ ap (λ key. second.0 ++ key ∷ (second.1 ++ keys)) there,
+      order-join low m n keys second.1 first second.3,
+    )
+
+order-more : (low key : ℕ) (keys : List ℕ) → low ≤ key → HasOrder low (key - low) keys → HasOrder low (key + 1 - low) (key ∷ keys)
+order-more low key keys le order =
     let one : key + 1 - low ≡ suc (key - low) = omega (arith, le) in
     let there : key ≡ low + (key - low) = omega (arith, le) in
-    subst (λ n. HasOrder low n (key ∷ more ++ keys)) (sym one)
-    ([], more ++ keys, ap (λ k. k ∷ more ++ keys) there, order-later low (key - low) keys more order)
-
--- each key of the order is one of those that were asked
-pub order-in : (low n key : ℕ) (keys : List ℕ) → HasOrder low n keys → low ≤ key → key < low + n → IsIn key keys
-order-in low zero key keys order le less = absurd (omega (arith, le, less))
-order-in low (suc n) key keys order le less =
-    subst (IsIn key) (sym order.2)
-    (elim (cases_eq key (low + n)) [
-      | inl is ↦ in-right key order.0 ((low + n) ∷ order.1) (inl is)
-      | inr other ↦ in-right key order.0 ((low + n) ∷ order.1) (inr (order-in low n key order.1 order.3 le (omega (arith, less, other))))
-    ])
-
--- two times that keys were asked
-pub same-join : (keys more : List ℕ) (old mid new : EndsSeat) → IsSameBut keys old mid → IsSameBut more mid new → IsSameBut (more ++ keys) old new
-same-join keys more old mid new first second = record {
-  bits = second.bits ∙ first.bits;
-  stay = λ key marked.
-      elim (first.stay key marked) [
-        | inl is ↦ inl (in-right key more keys is)
-        | inr still ↦
-            elim (second.stay key still) [
-              | inl is ↦ inl (in-left key more keys is)
-              | inr stays ↦ inr stays
-            ]
-      ];
-  listed = second.listed ∙ first.listed;
-  next = second.next ∙ first.next;
-  capacity = second.capacity ∙ first.capacity;
-}
+    subst (λ n. HasOrder low n (key ∷ keys)) (sym one) ([], keys, ap (λ k. k ∷ keys) there, order)
 
 -- what was asked or not marked later was asked or not marked
-pub unmarked-before : (keys more : List ℕ) (old mid : EndsSeat) (key : ℕ) → IsSameBut keys old mid → IsIn key more ⊎ (mark_of mid.ready.marks key ≡ 0) → IsIn key (more ++ keys) ⊎ (mark_of old.ready.marks key ≡ 0)
-unmarked-before keys more old mid key same was =
+pub unmarked-before : (keys more old mid : List ℕ) (key : ℕ) → StayMarked keys old mid → IsIn key more ⊎ (mark_of mid key ≡ 0) → IsIn key (more ++ keys) ⊎ (mark_of old key ≡ 0)
+unmarked-before keys more old mid key stay was =
     elim was [
       | inl is ↦ inl (in-left key more keys is)
       | inr clear ↦
-          elim (mark-cases old.ready.marks key) [
+          elim (mark-cases old key) [
             | inl none ↦ inr none
             | inr set ↦
-                elim (same.stay key set) [
+                elim (stay key set) [
                   | inl is ↦ inl (in-right key more keys is)
                   | inr stays ↦ absurd (omega (arith, clear, stays))
                 ]
           ]
     ]
 
-pub before-join : (next high room key : ℕ) (keys more : List ℕ) (old mid : EndsSeat) → IsSameBut keys old mid → high ≤ room → AskedBefore next room key more mid.ready.marks → AskedBefore next high key (more ++ keys) old.ready.marks
-before-join next high room key keys more old mid same le asked other is less =
-    unmarked-before keys more old mid other same (asked other is (omega (arith, le, less)))
+-- a walk of no keys
+passed-none : (which : Which) (low : ℕ) (marks : List ℕ) → HasPassedKeys which low low [] marks
+passed-none Marked low marks = λ key le less. absurd (omega (arith, le, less))
+passed-none Each low marks = let none : low - low ≡ 0 = omega arith in subst (λ n. HasOrder low n []) (sym none) tt
 
--- the keys of a range that stand before one of it were asked
-pub before-range : (next low high key : ℕ) (keys marks : List ℕ) → IsRange low high next → low ≤ key → key < high → HasOrder low (key - low) keys → AskedBefore next high key keys marks
-before-range next low high key keys marks range le less order other is below =
-    inl (order-in low (key - low) other keys order
-    (elim range [
-      | inl from ↦ elim is [
-        | inl ahead ↦ omega (arith, from, ahead.0)
-        | inr wraps ↦ absurd (omega (arith, from, wraps.0, le))
-      ]
-      | inr whole ↦ omega (arith, whole.0)
-    ])
-    (elim range [
-      | inl from ↦ elim is [
-        | inl ahead ↦ omega (arith, le, ahead.1)
-        | inr wraps ↦ absurd (omega (arith, from, wraps.0, le))
-      ]
-      | inr whole ↦ elim is [
-        | inl ahead ↦ absurd (omega (arith, whole.1, ahead.0, below))
-        | inr wraps ↦ elim wraps.1 [
-          | inl past ↦ absurd (omega (arith, whole.1, past, below))
-          | inr ahead ↦ omega (arith, le, ahead)
-        ]
-      ]
-    ]))
-
--- and then from the first
-pub before-behind : (next key high : ℕ) (keys more : List ℕ) (old mid : EndsSeat) → IsSameBut keys old mid → AskedOrUnmarked next high keys old.ready.marks → AskedOrUnmarked 0 key more mid.ready.marks → key < next → AskedBefore next high key (more ++ keys) old.ready.marks
-before-behind next key high keys more old mid same ahead behind less other is below =
-    let later : next ≤ other → IsIn other (more ++ keys) ⊎ (mark_of old.ready.marks other ≡ 0) = λ le.
-    elim (ahead other le below) [
-      | inl was ↦ inl (in-right other more keys was)
-      | inr clear ↦ inr clear
-    ] in
-    let earlier : other < key → IsIn other (more ++ keys) ⊎ (mark_of old.ready.marks other ≡ 0) = λ before. unmarked-before keys more old mid other same (behind other (omega arith) before) in
-    elim is [
-      | inl here ↦ absurd (omega (arith, less, here.0, here.1))
-      | inr wraps ↦ elim wraps.1 [
-        | inl past ↦ later past
-        | inr before ↦ earlier before
-      ]
+-- up to the next key that a walk asks it passes over each
+passed-to : (which : Which) (low from to : ℕ) (keys old mid : List ℕ) → StayMarked keys old mid → from ≤ to → HasPassedKeys which low from keys old → NoneBetween which mid from to → HasPassedKeys which low to keys old
+passed-to Marked low from to keys old mid stay le passed none = λ key above below.
+    elim (cases_lt key from) [
+      | inl before ↦ passed key above before
+      | inr past ↦ unmarked-before keys [] old mid key stay (inr (none key past below))
     ]
-
--- the range behind the next key was asked whole
-pub before-whole : (next key room : ℕ) (keys more : List ℕ) (old mid : EndsSeat) → IsSameBut keys old mid → HasOrder next (room - next) keys → AskedBefore next next key more mid.ready.marks → AskedBefore next room key (more ++ keys) old.ready.marks
-before-whole next key room keys more old mid same order asked other is below =
-    elim (cases_lt other next) [
-      | inl ahead ↦ unmarked-before keys more old mid other same (asked other is ahead)
-      | inr past ↦ inl (in-right other more keys (order-in next (room - next) other keys order past (omega (arith, past, below))))
-    ]
-
--- up to the next key that is marked, each was asked or not marked
-pub next-asked : (low key marked : ℕ) (keys : List ℕ) (old mid : EndsSeat) → IsSameBut keys old mid → AskedOrUnmarked low key keys old.ready.marks → ClearBetween mid.ready.marks key marked → AskedOrUnmarked low marked keys old.ready.marks
-next-asked low key marked keys old mid same asked clear other le less =
-    elim (cases_lt other key) [
-      | inl before ↦ asked other le before
-      | inr past ↦ unmarked-before keys [] old mid other same (inr (clear other past less))
-    ]
+passed-to Each low from to keys old mid stay le passed none =
+    let same : from ≡ to = omega (arith, le, none) in subst (λ n. HasOrder low (n - low) keys) same passed
 
 -- and that one was asked
-pub marked-asked : (low marked : ℕ) (keys marks : List ℕ) → AskedOrUnmarked low marked keys marks → AskedOrUnmarked low (marked + 1) (marked ∷ keys) marks
-marked-asked low marked keys marks asked other le less =
-    elim (cases_eq other marked) [
+passed-key : (which : Which) (low key : ℕ) (keys marks : List ℕ) → low ≤ key → HasPassedKeys which low key keys marks → HasPassedKeys which low (key + 1) (key ∷ keys) marks
+passed-key Marked low key keys marks le passed = λ other above below.
+    elim (cases_eq other key) [
       | inl is ↦ inl (inl is)
       | inr differs ↦
-          elim (asked other le (omega (arith, less, differs))) [
+          elim (passed other above (omega (arith, below, differs))) [
             | inl was ↦ inl (inr was)
             | inr clear ↦ inr clear
           ]
     ]
+passed-key Each low key keys marks le passed = order-more low key keys le passed
 
 -- an asking takes away the mark of its key alone
-pub ask-same : (key : ℕ) (old new : EndsSeat) → SameBut key old.ready.marks new.ready.marks → new.ready.listed ≡ old.ready.listed → new.next ≡ old.next → new.held.capacity ≡ old.held.capacity → IsSameBut (key ∷ []) old new
-ask-same key old new same listed next capacity = record {
-  bits = same.bits;
-  stay = λ other marked.
-      elim (cases_eq other key) [
-        | inl is ↦ inl (inl is)
-        | inr differs ↦ inr (same.others other differs ∙ marked)
-      ];
-  listed = listed;
-  next = next;
-  capacity = capacity;
-}
-
--- one more was asked and gave none
-pub these-more : (keys : List ℕ) (key : ℕ) (old mid new : EndsSeat) (before c after : Count) (was here : Bool) → AskedThese keys old mid before c was → IsAskedAt mid.held new.held key c after (Nothing here) → IsSameBut (key ∷ []) mid new → AskedThese (key ∷ keys) old new before after (here || was)
-these-more keys key old mid new before c after was here first came same = record {
-  asked = (mid.held, c, was, here, first.asked, came, refl);
-  same = same-join keys (key ∷ []) old mid new first.same same;
-}
+stay-more : (key : ℕ) (keys old mid new : List ℕ) → StayMarked keys old mid → SameBut key mid new → StayMarked (key ∷ keys) old new
+stay-more key keys old mid new stay same = λ other marked.
+    elim (stay other marked) [
+      | inl is ↦ inl (inr is)
+      | inr still ↦
+          elim (cases_eq other key) [
+            | inl is ↦ inl (inl is)
+            | inr differs ↦ inr (same.others other differs ∙ still)
+          ]
+    ]
 
 -- keys were asked, and then others
-pub these-join : (keys more : List ℕ) (old mid new : EndsSeat) (before c after : Count) (was busy : Bool) → AskedThese keys old mid before c was → AskedThese more mid new c after busy → AskedThese (more ++ keys) old new before after (busy || was)
-these-join keys more old mid new before c after was busy first second = record {
-  asked = asked-join keys more old.held mid.held new.held before c after was busy first.asked second.asked;
-  same = same-join keys more old mid new first.same second.same;
-}
+pub came-join : (keys more : List ℕ) (old mid new : Slab Held) (before c after : Count) (was busy : Bool) (served : Served) → CameTo keys old mid before c was (Nothing busy) → CameTo more mid new c after busy served → CameTo (more ++ keys) old new before after was served
+came-join keys more old mid new before c after was busy (Given key v) first given =
+    given-join keys more old mid new before c after first.0 key v first.1 given
+came-join keys more old mid new before c after was busy (Nothing now) first second = (
+  second.0 || first.0,
+  asked-join keys more old mid new before c after first.0 second.0 first.1 second.1,
+  second.2 ∙ ap (λ b. second.0 || b) first.2 ∙ sym (or-assoc second.0 first.0 was),
+)
 
--- keys were asked, and then one whose end gave an envelope
-pub behind-join : (keys more : List ℕ) (old mid new : EndsSeat) (before c after : Count) (was : Bool) (key : ℕ) (v : Envelope) → AskedThese keys old mid before c was → GivenBehind more mid new c after key v → GivenBehind (more ++ keys) old new before after key v
-behind-join keys more old mid new before c after was key v first given = record {
-  given = given-join keys more old.held mid.held new.held before c after was key v first.asked given.given;
-  inside = subst (λ n. key < n) first.same.capacity given.inside;
-  fits = given.fits;
-  marked = given.marked;
-  listed = given.listed ∙ first.same.listed;
-  next = given.next ∙ first.same.next;
-  capacity = given.capacity ∙ first.same.capacity;
-}
+-- nothing was walked yet
+pub walked-none : (which : Which) (low : ℕ) (at : EndsSeat) (count : Count) (was : Bool) → HasWalked which low low at at count count was (Nothing was)
+walked-none which low at count was = ([], (false, (refl, refl, refl), refl), passed-none which low at.marks, λ key marked. inr marked)
 
-pub behind-one : (key : ℕ) (old new : EndsSeat) (before after : Count) (v : Envelope) → IsAskedAt old.held new.held key before after (Given key v) → key < old.held.capacity → key + 1 < 2 ^ 64 → mark_of new.ready.marks key ≡ 1 → IsSameBut (key ∷ []) old new → GivenBehind [] old new before after key v
-behind-one key old new before after v came inside fits marked same = record {
-  given = record { middle = old.held; count = before; busy = false; earlier = (refl, refl, refl); given = came };
-  inside = inside;
-  fits = fits;
-  marked = marked;
-  listed = same.listed;
-  next = same.next;
-  capacity = same.capacity;
-}
+-- the next key was asked, and gave none
+pub walked-more : (which : Which) (low from key : ℕ) (old mid new : EndsSeat) (before c after : Count) (was busy here : Bool) → low ≤ from → from ≤ key → HasWalked which low from old mid before c was (Nothing busy) → NoneBetween which mid.marks from key → IsAskedAt mid.held new.held key c after (Nothing here) → SameBut key mid.marks new.marks → HasWalked which low (key + 1) old new before after was (Nothing (here || busy))
+walked-more which low from key old mid new before c after was busy here above le walked none came same =
+    let keys = walked.0 in
+    let asked = walked.1 in (
+      key ∷ keys,
+      (
+        here || asked.0,
+        (mid.held, c, asked.0, here, asked.1, came, refl),
+        ap (λ b. here || b) asked.2 ∙ sym (or-assoc here asked.0 was),
+      ),
+      passed-key which low key keys old.marks (omega (arith, above, le)) (passed-to which low from key keys old.marks mid.marks walked.3 le walked.2 none),
+      stay-more key keys old.marks mid.marks new.marks walked.3 same,
+    )
+
+-- the next key was asked, and gave an envelope
+pub walked-given : (which : Which) (low from key high : ℕ) (old mid new : EndsSeat) (before c after : Count) (was busy : Bool) (v : Envelope) → low ≤ from → from ≤ key → key < high → HasWalked which low from old mid before c was (Nothing busy) → NoneBetween which mid.marks from key → IsAskedAt mid.held new.held key c after (Given key v) → HasWalked which low high old new before after was (Given key v)
+walked-given which low from key high old mid new before c after was busy v above le less walked none came = (
+  walked.0,
+  record { middle = mid.held; count = c; busy = walked.1.0; earlier = walked.1.1; given = came },
+  passed-to which low from key walked.0 old.marks mid.marks walked.3 le walked.2 none,
+  omega (arith, above, le),
+  less,
+)
+
+-- no key is left
+pub walked-whole : (which : Which) (low from high : ℕ) (old new : EndsSeat) (before after : Count) (was busy : Bool) → from ≤ high → HasWalked which low from old new before after was (Nothing busy) → NoneBetween which new.marks from high → HasWalked which low high old new before after was (Nothing busy)
+walked-whole which low from high old new before after was busy le walked none =
+    (walked.0, walked.1, passed-to which low from high walked.0 old.marks new.marks walked.3 le walked.2 none, walked.3)

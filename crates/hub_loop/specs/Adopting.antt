@@ -112,6 +112,10 @@ abbrev pub KeepsOthers : EndId → List HandedQueue → List HandedQueue → Typ
 KeepsOthers end old new = (new ≡ old)
     ⊎ ((q : HandedQueue) × (rest : List HandedQueue) × ((taker_of q).end ≡ end.0) × IsTakenFrom q old rest × ((new ≡ rest) ⊎ (new ≡ rest ++ q ∷ [])))
 
+-- The queues that were fetched before are kept, in some order; one of this number may be kept beside them.
+abbrev pub KeepsFetched : EndId → List HandedQueue → List HandedQueue → Type 0
+KeepsFetched end old new = IsPermutation old new ⊎ ((q : HandedQueue) × ((taker_of q).end ≡ end.0) × IsPermutation (q ∷ old) new)
+
 -- A queue of this number was adopted and is held, or it was refused for good and closed; false: or none was there.
 abbrev pub IsFetched : Bool → Stored → Stored → EndId → Type 0
 IsFetched true old new end = (q : HandedQueue) × ((taker_of q).end ≡ end.0) × IsQueueAdopted q old new true

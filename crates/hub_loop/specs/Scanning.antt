@@ -1,20 +1,20 @@
--- How a loop asks the ends that are marked, and all ends in order.
-use Rattle.std.specs.Prelude.{◌≡◌, ◌⊎◌, ℕ, ◌+◌, ◌-◌, ◌^◌, ◌<◌, ◌≤◌, Bool, List, length, Option, Some}
-use Rattle.slab.specs.Slab.{Slab}
+-- How a loop walks the ends that are marked, and each end in order.
+use Rattle.std.specs.Prelude.{◌≡◌, ◌⊎◌, ℕ, ◌-◌, ◌<◌, ◌≤◌, Bool, ◌||◌, List, Option, Some}
+use Rattle.slab.specs.Slab.{Slab, get}
 use Rattle.hub_bell.specs.declared.board.BoardStep.{BoardStep}
 use Rattle.hub_bell.specs.Seats.{BoardSeat}
-use Rattle.hub_envelope.specs.declared.envelope.Envelope.{Envelope}
 use Rattle.hub_envelope.specs.declared.ids.EndId.{EndId}
 use Rattle.hub_ready.specs.Finding.{HasStepped, LeadsTo}
-use Rattle.hub_ready.specs.Marking.{mark_of}
+use Rattle.hub_ready.specs.Marking.{mark_of, ClearBetween}
 use Rattle.hub_queue.specs.Counting.{Count}
 use Rattle.hub_loop.specs.declared.held.Held.{Held}
 use Rattle.hub_loop.specs.declared.ends.HeldEnds.{HeldEnds}
-use Rattle.hub_ready.specs.declared.ready.Ready.{Ready}
 use Rattle.hub_loop.specs.declared.serving.Served.{Served}
 use Rattle.hub_loop.specs.declared.serving.Served.TheVariants.{Given, Nothing}
+use Rattle.hub_loop.specs.declared.serving.Which.{Which}
+use Rattle.hub_loop.specs.declared.serving.Which.TheVariants.{Marked, Each}
 use Rattle.hub_loop.specs.Holding.{end_held}
-use Rattle.hub_loop.specs.Serving.{AskedAll, HasGiven, HasOrder, InOrder, IsBefore, IsIn, AreServed}
+use Rattle.hub_loop.specs.Serving.{AskedAll, HasGiven, HasOrder, IsBefore, IsIn, IsPassedOver, AreServed}
 
 -- the number of the end that is held here leads to this key
 abbrev pub IsListedAt : List ℕ → ℕ → Option Held → Type 0
@@ -25,83 +25,74 @@ abbrev pub IsServedMarked : List ℕ → Served → Type 0
 IsServedMarked marks (Given key v) = mark_of marks key ≡ 1
 IsServedMarked marks (Nothing busy) = Unit {0}
 
--- what a loop holds, its marks, and the key with which the next asking begins
+-- what a loop holds, and its marks
 pub record EndsSeat : Type 0 where
   pub held : Slab Held
-  pub ready : Ready
-  pub next : ℕ
+  pub marks : List ℕ
 
 abbrev pub held_ends : HeldEnds → EndsSeat
-held_ends h = record { held = h.held; ready = h.ready; next = h.next }
+held_ends h = record { held = h.held; marks = h.ready.marks }
 
--- the key of the end that gave an envelope is one of those that there are
-abbrev pub IsServedInside : ℕ → Served → Type 0
-IsServedInside capacity (Given key v) = (key + 1 ≤ capacity) × (key + 1 < 2 ^ 64)
-IsServedInside capacity (Nothing busy) = Unit {0}
+-- a walk passes over each key from the one up to the other
+abbrev pub NoneBetween : Which → List ℕ → ℕ → ℕ → Type 0
+NoneBetween Marked marks low high = ClearBetween marks low high
+NoneBetween Each marks low high = high ≤ low
 
--- no other mark was taken away than those of these keys, and the numbers lead where they did
-pub record IsSameBut (keys : List ℕ) (old new : EndsSeat) : Type 0 where
-  pub bits : length new.ready.marks ≡ length old.ready.marks
-  pub stay : (key : ℕ) → mark_of old.ready.marks key ≡ 1 → IsIn key keys ⊎ (mark_of new.ready.marks key ≡ 1)
-  pub listed : new.ready.listed ≡ old.ready.listed
-  pub next : new.next ≡ old.next
-  pub capacity : new.held.capacity ≡ old.held.capacity
-
--- these keys were asked, and no end gave an envelope
-pub record AskedThese (keys : List ℕ) (old new : EndsSeat) (before after : Count) (busy : Bool) : Type 0 where
-  pub asked : AskedAll keys old.held new.held before after busy
-  pub same : IsSameBut keys old new
-
--- these keys were asked, and then this one, whose end gave an envelope
-pub record GivenBehind (keys : List ℕ) (old new : EndsSeat) (before after : Count) (key : ℕ) (v : Envelope) : Type 0 where
-  pub given : HasGiven keys old.held new.held before after key v
-  pub inside : key < old.held.capacity
-  pub fits : key + 1 < 2 ^ 64
-  pub marked : mark_of new.ready.marks key ≡ 1
-  pub listed : new.ready.listed ≡ old.ready.listed
-  pub next : new.next ≡ old.next
-  pub capacity : new.held.capacity ≡ old.held.capacity
+-- no other mark was taken away than those of these keys
+abbrev pub StayMarked : List ℕ → List ℕ → List ℕ → Type 0
+StayMarked keys old new = (key : ℕ) → mark_of old key ≡ 1 → IsIn key keys ⊎ (mark_of new key ≡ 1)
 
 -- each key between was asked, or wasn't marked
 abbrev pub AskedOrUnmarked : ℕ → ℕ → List ℕ → List ℕ → Type 0
 AskedOrUnmarked low high keys marks = (key : ℕ) → low ≤ key → key < high → IsIn key keys ⊎ (mark_of marks key ≡ 0)
 
--- each key before this one in the order of serving was asked, or wasn't marked
-abbrev pub AskedBefore : ℕ → ℕ → ℕ → List ℕ → List ℕ → Type 0
-AskedBefore next high key keys marks = (other : ℕ) → IsBefore next other key → other < high → IsIn other keys ⊎ (mark_of marks other ≡ 0)
+-- The keys of a range were asked: those that were marked, or each in order.
+abbrev pub HasPassedKeys : Which → ℕ → ℕ → List ℕ → List ℕ → Type 0
+HasPassedKeys Marked low high keys marks = AskedOrUnmarked low high keys marks
+HasPassedKeys Each low high keys marks = HasOrder low (high - low) keys
 
-abbrev pub AreMarkedAsked : ℕ → ℕ → EndsSeat → EndsSeat → Count → Count → Served → Type 0
-AreMarkedAsked low high old new before after (Given key v) =
-    (keys : List ℕ) × GivenBehind keys old new before after key v × (low ≤ key) × (key < high) × AskedOrUnmarked low key keys old.ready.marks
-AreMarkedAsked low high old new before after (Nothing busy) =
-    (keys : List ℕ) × AskedThese keys old new before after busy × AskedOrUnmarked low high keys old.ready.marks
+-- These keys were asked, the last of them first in the list, and this is what it came to; `was` tells whether an end was busy before.
+abbrev pub CameTo : List ℕ → Slab Held → Slab Held → Count → Count → Bool → Served → Type 0
+CameTo keys old new before after was (Given key v) = HasGiven keys old new before after key v
+CameTo keys old new before after was (Nothing busy) = (here : Bool) × AskedAll keys old new before after here × (busy ≡ (here || was))
+
+-- The keys of a range were walked, up to the one whose end gave an envelope.
+abbrev pub HasWalked : Which → ℕ → ℕ → EndsSeat → EndsSeat → Count → Count → Bool → Served → Type 0
+HasWalked which low high old new before after was (Given key v) =
+    (keys : List ℕ) × CameTo keys old.held new.held before after was (Given key v) × HasPassedKeys which low key keys old.marks × (low ≤ key) × (key < high)
+HasWalked which low high old new before after was (Nothing busy) =
+    (keys : List ℕ) × CameTo keys old.held new.held before after was (Nothing busy) × HasPassedKeys which low high keys old.marks × StayMarked keys old.marks new.marks
+
+-- this key stands before the one whose end gave an envelope; where none gave one each does
+abbrev pub IsReachedBefore : ℕ → ℕ → Served → Type 0
+IsReachedBefore next other (Given key v) = IsBefore next other key
+IsReachedBefore next other (Nothing busy) = Unit {0}
+
+-- each end that stands before was asked or passed over
+abbrev pub HasPassedEnds : ℕ → Slab Held → List ℕ → List BoardStep → List ℕ → Served → Type 0
+HasPassedEnds next slots marks looks keys served =
+    (other : ℕ) → IsReachedBefore next other served → IsIn other keys ⊎ IsPassedOver (get slots other) (mark_of marks other) looks
 
 -- The marked ends were asked in the order of serving.
-abbrev pub AreMarkedServed : EndsSeat → EndsSeat → Count → Count → Served → Type 0
-AreMarkedServed old new before after (Given key v) =
-    (keys : List ℕ) × GivenBehind keys old new before after key v × AskedBefore old.next old.held.capacity key keys old.ready.marks
-AreMarkedServed old new before after (Nothing busy) =
-    (keys : List ℕ) × AskedThese keys old new before after busy
+abbrev pub AreMarkedServed : HeldEnds → HeldEnds → BoardSeat → BoardSeat → Count → Count → Bool → Served → Type 0
+AreMarkedServed old new heard hears before after was served =
+    (looks : List BoardStep) × HasStepped heard hears looks
+    × (keys : List ℕ) × CameTo keys old.held new.held before after was served
+    × HasPassedEnds old.next old.held old.ready.marks looks keys served
 
--- the keys from the next one on, or those before it
-abbrev pub IsRange : ℕ → ℕ → ℕ → Type 0
-IsRange low high next = (low ≡ next) ⊎ ((low ≡ 0) × (high ≡ next))
+-- among these keys are those of the range, in order; where an end gave an envelope it is not said
+abbrev pub HasAskedEach : ℕ → ℕ → List ℕ → Served → Type 0
+HasAskedEach low high keys (Given key v) = Unit {0}
+HasAskedEach low high keys (Nothing busy) = HasOrder low (high - low) keys
 
--- The ends under these keys were asked in order, and marked ones between.
-abbrev pub AreAskedBetween : ℕ → ℕ → EndsSeat → EndsSeat → Count → Count → Served → Type 0
-AreAskedBetween low high old new before after (Given key v) =
-    (keys : List ℕ) × GivenBehind keys old new before after key v × AskedBefore old.next high key keys old.ready.marks
-AreAskedBetween low high old new before after (Nothing busy) =
-    (keys : List ℕ) × AskedThese keys old new before after busy × HasOrder low (high - low) keys
+-- The ends of a range were asked in order, and marked ones between.
+abbrev pub AreEachServed : ℕ → ℕ → HeldEnds → HeldEnds → BoardSeat → BoardSeat → Count → Count → Bool → Served → Type 0
+AreEachServed low high old new heard hears before after was served =
+    (looks : List BoardStep) × HasStepped heard hears looks
+    × (keys : List ℕ) × CameTo keys old.held new.held before after was served
+    × HasAskedEach low high keys served
 
--- All ends were asked in the order of serving, and marked ones between.
-abbrev pub AreAllServed : EndsSeat → EndsSeat → Count → Count → Served → Type 0
-AreAllServed old new before after (Given key v) =
-    (keys : List ℕ) × GivenBehind keys old new before after key v × AskedBefore old.next old.held.capacity key keys old.ready.marks
-AreAllServed old new before after (Nothing busy) =
-    (keys : List ℕ) × AskedThese keys old new before after busy × InOrder old.next old.held.capacity keys
-
--- The same as the loop promises it.
+-- The ends were served, as the loop promises it.
 abbrev pub IsServed : HeldEnds → HeldEnds → BoardSeat → BoardSeat → Count → Count → Served → Type 0
 IsServed old new heard hears before after served =
     (looks : List BoardStep) × HasStepped heard hears looks

@@ -21,7 +21,13 @@ ghost use Rattle.std.specs.Prelude.{
 ghost use Rattle.hub_bell.specs.Seats.{new_at};
 ghost use Rattle.hub_clients.specs.Handing.{taker_of};
 ghost use Rattle.hub_life.specs.OrderSeat.{knows};
-ghost use Rattle.hub_loop.specs.Adopting.{IsFetched, IsTakenFrom, KeepsOthers, SameStored};
+ghost use Rattle.hub_loop.specs.Adopting.{
+  IsFetched,
+  IsTakenFrom,
+  KeepsFetched,
+  KeepsOthers,
+  SameStored,
+};
 ghost use Rattle.hub_loop.specs.Looping.{
   MakesTurn,
   SameButFetched,
@@ -305,6 +311,7 @@ impl<H: Handler + Drop, C: Checkpoint + Drop> EventLoop<H, C> {
         ensures err { OnErr result (SameStored
             (store_of self.old.holding) (store_of self.new.holding)) }
         ensures others { KeepsOthers end self.old.fetched self.new.fetched }
+        ensures kept { OnErr result (KeepsFetched end self.old.fetched self.new.fetched) }
         ensures marked { AreMarked self.old.holding.held self.old.holding.ready
             self.new.holding.held self.new.holding.ready }
         ensures rest { SameButFetched self.old self.new }

@@ -1,33 +1,25 @@
 //! How a loop asks the ends that it holds, in the order of their keys.
-ghost use Rattle.std.specs.Prelude.{◌≡◌, ◌≤◌, length, List, true};
+ghost use Rattle.std.specs.Prelude.{◌≡◌, ◌<◌, ◌≤◌, length, IfNone, IfSome, true};
 ghost use Rattle.slab.specs.Slab.{get};
-ghost use Rattle.hub_bell.specs.declared.board.BoardStep.{BoardStep};
-ghost use Rattle.hub_ready.specs.Finding.{HasStepped};
 ghost use Rattle.hub_ready.specs.Marking.{SameBut};
 ghost use Rattle.hub_loop.specs.Scanning.{
-  AreAllServed,
-  AreAskedBetween,
-  AreMarkedAsked,
+  AreEachServed,
   AreMarkedServed,
+  HasWalked,
   held_ends,
   IsListedAt,
-  IsRange,
   IsServed,
-  IsServedInside,
   IsServedMarked,
+  NoneBetween,
 };
-ghost use Rattle.hub_loop.specs.Serving.{
-  next_after,
-  served_by,
-  IsAskedAt,
-};
+ghost use Rattle.hub_loop.specs.Serving.{next_after, served_by, IsAskedAt};
 
 use crate::ends::HeldEnds;
 use crate::finding::next_marked;
 use crate::held::Held;
 use hub_envelope::Envelope;
 use hub_queue::{Listener, Steps, Took};
-use hub_ready::Ready;
+use hub_ready::{Marks, Ready};
 use slab::Slab;
 use std::sync::Wait;
 use std::sync::ledger::Ledger;
@@ -86,6 +78,26 @@ fn is_listed(held: &Slab<Held>, ready: &Ready, key: usize) -> bool
     }
 }
 
+/// Which keys of a range a walk asks.
+#[derive(Clone, Copy)]
+enum Which {
+    Marked,
+    Each,
+}
+
+/// The first of these keys from the one up to the other.
+fn next_key(marks: &Marks, which: Which, low: usize, high: usize) -> Option<usize>
+    ensures some { IfSome result (λ key. (low ≤ key) × (key < high)
+        × NoneBetween which marks.now low key) }
+    ensures none { IfNone result (NoneBetween which marks.now low high) }
+{
+    match which {
+        Which::Marked => next_marked(marks, low, high),
+        Which::Each if low < high => Some(low),
+        Which::Each => None,
+    }
+}
+
 /// How many ends are asked in order before the loop looks which were rung.
 const A_TIME: usize = 64;
 
@@ -96,7 +108,6 @@ impl HeldEnds {
         ensures others { SameBut key self.old.ready.marks self.new.ready.marks }
         ensures given { IsServedMarked self.new.ready.marks result }
         ensures capacity { self.new.held.capacity ≡ self.old.held.capacity }
-        ensures listed { self.new.ready.listed ≡ self.old.ready.listed }
         ensures next { self.new.next ≡ self.old.next }
     {
         let served = ask_at(rt, &mut self.held, key, steps);
@@ -109,148 +120,100 @@ impl HeldEnds {
         served
     }
 
-    /// Asks the marked ends under these keys in order, up to the first that gives an envelope.
-    fn ask_marked<L: Ledger, R: Wait>(
+    /// Asks these ends of a range in order, up to the first that gives an envelope: the next asking
+    /// begins behind it. `was` tells whether an end was busy before.
+    fn walk<L: Ledger, R: Wait>(
         &mut self,
         rt: &R,
+        which: Which,
         low: usize,
         high: usize,
+        was: bool,
         steps: &mut Steps<L>,
     ) -> Served
-        requires { high ≤ self.old.held.capacity }
-        ensures asked { AreMarkedAsked low high (held_ends self.old) (held_ends self.new)
-            steps.old steps.new result }
+        requires { (low ≤ high) × (high ≤ self.old.held.capacity) }
+        ensures walked { HasWalked which low high (held_ends self.old) (held_ends self.new)
+            steps.old steps.new was result }
+        ensures given { IsServedMarked self.new.ready.marks result }
+        ensures next { self.new.next ≡ next_after self.old.next result }
+        ensures capacity { self.new.held.capacity ≡ self.old.held.capacity }
     {
-        let mut busy = false;
-        let mut key = low;
-        'marks: while let Some(marked) = next_marked(&self.ready.marks, key, high) {
-            match self.ask(rt, marked, steps) {
-                Served::Nothing(here) => busy = here | busy,
-                served => return served,
-            }
-            key = marked + 1;
-        }
-        Served::Nothing(busy)
-    }
-
-    /// Asks the marked ends in order, from the next key on and then from the first.
-    fn serve_marked<L: Ledger, R: Wait>(&mut self, rt: &R, steps: &mut Steps<L>) -> Served
-        ensures served { AreMarkedServed (held_ends self.old) (held_ends self.new)
-            steps.old steps.new result }
-        ensures keys { length self.old.held.slots ≤ self.old.held.capacity }
-    {
-        let next = self.next;
-        let high = self.held.capacity();
-        match self.ask_marked(rt, next, high, steps) {
-            Served::Nothing(ahead) => match self.ask_marked(rt, 0, next, steps) {
-                Served::Nothing(busy) => Served::Nothing(busy | ahead),
-                served => served,
-            },
-            served => served,
-        }
-    }
-
-    /// Before some of the keys it looks which ends were rung, and asks the marked ones where there
-    /// may be one.
-    fn serve_rung<L: Ledger, R: Wait>(
-        &mut self,
-        rt: &R,
-        listener: &mut Listener,
-        key: usize,
-        steps: &mut Steps<L>,
-    ) -> Served
-        ensures served { AreMarkedServed (held_ends self.old) (held_ends self.new)
-            steps.old steps.new result }
-        ensures looks { (looks : List BoardStep) × HasStepped listener.old listener.new looks }
-    {
-        if key % A_TIME != A_TIME - 1 {
-            return Served::Nothing(false);
-        }
-        if !self.ready.gather(listener) {
-            return Served::Nothing(false);
-        }
-        self.serve_marked(rt, steps)
-    }
-
-    /// Asks each end under these keys in order, up to the first that gives an envelope. From time
-    /// to time it looks which ends were rung, and serves them first.
-    fn ask_between<L: Ledger, R: Wait>(
-        &mut self,
-        rt: &R,
-        listener: &mut Listener,
-        low: usize,
-        high: usize,
-        steps: &mut Steps<L>,
-    ) -> Served
-        requires { (low ≤ high) × (high ≤ self.old.held.capacity) × IsRange low high self.old.next }
-        ensures served { AreAskedBetween low high (held_ends self.old) (held_ends self.new)
-            steps.old steps.new result }
-        ensures looks { (looks : List BoardStep) × HasStepped listener.old listener.new looks }
-    {
-        let mut busy = false;
-        for key in low..high {
-            match self.serve_rung(rt, listener, key, steps) {
-                Served::Nothing(here) => busy = here | busy,
-                served => return served,
-            }
+        let mut busy = was;
+        let mut from = low;
+        'keys: while let Some(key) = next_key(&self.ready.marks, which, from, high) {
             match self.ask(rt, key, steps) {
                 Served::Nothing(here) => busy = here | busy,
-                served => return served,
+                served => {
+                    self.next = key + 1;
+                    return served;
+                }
             }
+            from = key + 1;
         }
         Served::Nothing(busy)
     }
 
-    /// Asks each end in order, from the next key on and then from the first, up to the first that
-    /// gives an envelope.
-    fn serve_all<L: Ledger, R: Wait>(
+    /// Looks which ends were rung, and asks the marked ones in order, from the next key on and then
+    /// from the first.
+    fn serve_marked<L: Ledger, R: Wait>(
         &mut self,
         rt: &R,
         listener: &mut Listener,
+        was: bool,
         steps: &mut Steps<L>,
     ) -> Served
-        ensures served { AreAllServed (held_ends self.old) (held_ends self.new)
-            steps.old steps.new result }
-        ensures looks { (looks : List BoardStep) × HasStepped listener.old listener.new looks }
+        ensures served { AreMarkedServed self.old self.new listener.old listener.new
+            steps.old steps.new was result }
+        ensures given { IsServedMarked self.new.ready.marks result }
+        ensures next { self.new.next ≡ next_after self.old.next result }
+        ensures capacity { self.new.held.capacity ≡ self.old.held.capacity }
     {
+        self.ready.gather(listener);
         let next = self.next;
         let high = self.held.capacity();
-        match self.ask_between(rt, listener, next, high, steps) {
-            Served::Nothing(ahead) => match self.ask_between(rt, listener, 0, next, steps) {
-                Served::Nothing(busy) => Served::Nothing(busy | ahead),
-                served => served,
-            },
+        match self.walk(rt, Which::Marked, next, high, was, steps) {
+            Served::Nothing(busy) => self.walk(rt, Which::Marked, 0, next, busy, steps),
             served => served,
         }
     }
 
-    /// Looks which ends were rung, and asks the marked ends; where none of them gives an envelope
-    /// all are asked.
-    fn serve_first<L: Ledger, R: Wait>(
+    /// Asks each end of a range in order, up to the first that gives an envelope. From time to time
+    /// it serves the marked ones first.
+    fn serve_each<L: Ledger, R: Wait>(
         &mut self,
         rt: &R,
         listener: &mut Listener,
+        low: usize,
+        high: usize,
+        was: bool,
         steps: &mut Steps<L>,
     ) -> Served
-        ensures served { IsServed self.old self.new listener.old listener.new steps.old steps.new
-            result }
-        ensures keys { length self.old.held.slots ≤ self.old.held.capacity }
+        requires { (low ≤ high) × (high ≤ self.old.held.capacity) }
+        ensures served { AreEachServed low high self.old self.new listener.old listener.new
+            steps.old steps.new was result }
         ensures given { IsServedMarked self.new.ready.marks result }
-        ensures inside { IsServedInside self.new.held.capacity result }
-        ensures next { self.new.next ≡ self.old.next }
+        ensures next { self.new.next ≡ next_after self.old.next result }
+        ensures capacity { self.new.held.capacity ≡ self.old.held.capacity }
     {
-        self.ready.gather(listener);
-        match self.serve_marked(rt, steps) {
-            Served::Nothing(marked) => match self.serve_all(rt, listener, steps) {
-                Served::Nothing(busy) => Served::Nothing(busy | marked),
-                served => served,
-            },
-            served => served,
+        let mut busy = was;
+        let mut from = low;
+        'parts: while high - from > A_TIME {
+            match self.walk(rt, Which::Each, from, from + A_TIME, busy, steps) {
+                Served::Nothing(now) => busy = now,
+                served => return served,
+            }
+            match self.serve_marked(rt, listener, busy, steps) {
+                Served::Nothing(now) => busy = now,
+                served => return served,
+            }
+            from += A_TIME;
         }
+        self.walk(rt, Which::Each, from, high, busy, steps)
     }
 
     /// Asks the ends in turn, beginning behind the one served last. Ends that are not marked, and
-    /// whose ready bits are clear, are passed over while a marked one gives an envelope.
+    /// whose ready bits are clear, are passed over while a marked one gives an envelope; where none
+    /// does each is asked.
     pub(crate) fn serve<L: Ledger, R: Wait>(
         &mut self,
         rt: &R,
@@ -263,10 +226,16 @@ impl HeldEnds {
         ensures given { IsServedMarked self.new.ready.marks result }
         ensures next { self.new.next ≡ next_after self.old.next result }
     {
-        let served = self.serve_first(rt, listener, steps);
-        if let Served::Given(key, _) = &served {
-            self.next = *key + 1;
+        let next = self.next;
+        let high = self.held.capacity();
+        match self.serve_marked(rt, listener, false, steps) {
+            Served::Nothing(marked) => {
+                match self.serve_each(rt, listener, next, high, marked, steps) {
+                    Served::Nothing(ahead) => self.serve_each(rt, listener, 0, next, ahead, steps),
+                    served => served,
+                }
+            }
+            served => served,
         }
-        served
     }
 }

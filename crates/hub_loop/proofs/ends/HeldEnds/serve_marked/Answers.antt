@@ -1,26 +1,31 @@
-use Rattle.std.proofs.Common.{◌++◌, subst}
-use Rattle.hub_loop.specs.Scanning.{held_ends, AreMarkedAsked}
-use Rattle.hub_loop.proofs.Scans.{marked-ahead, marked-behind}
-use Rattle.hub_loop.proofs.Serves.{these-join}
+use Rattle.std.proofs.Common.{arith, subst}
+use Rattle.hub_loop.specs.Scanning.{held_ends, EndsSeat, HasWalked}
+use Rattle.hub_loop.specs.declared.serving.Which.TheVariants.{Marked}
+use Rattle.hub_loop.proofs.Scans.{gathered, marked-ahead, marked-behind, Gathered}
 use Rattle.hub_loop.proofs.ends.HeldEnds.serve_marked.Goals as goal
 
-pub returns-in-Nothing-ask_marked-clause-served : goal.returns-in-Nothing-ask_marked-clause-served
-returns-in-Nothing-ask_marked-clause-served g c =
-    let old = held_ends c.args.self.now in
-    let mid = held_ends c.ask_marked.new.self in
-    let new = held_ends c.ask_marked-in-Nothing.new.self in
-    let first = subst (AreMarkedAsked old.next c.capacity-high.result old mid c.args.steps.now c.ask_marked.new.steps) c.in-Nothing.is c.ask_marked.ensures.asked in
-    let second = subst (AreMarkedAsked 0 old.next mid new c.ask_marked.new.steps c.ask_marked-in-Nothing.new.steps) c.in-Nothing-ask_marked.is c.ask_marked-in-Nothing.ensures.asked in
-    (second.0 ++ first.0, these-join first.0 second.0 old mid new c.args.steps.now c.ask_marked.new.steps c.ask_marked-in-Nothing.new.steps c.in-Nothing.ahead c.in-Nothing-ask_marked.busy first.1 second.1)
-
-pub returns-in_default-ask_marked-clause-served : goal.returns-in_default-ask_marked-clause-served
-returns-in_default-ask_marked-clause-served g c =
-    let old = held_ends c.args.self.now in
-    let mid = held_ends c.ask_marked.new.self in
-    let new = held_ends c.ask_marked-in-Nothing.new.self in
-    let first = subst (AreMarkedAsked old.next c.capacity-high.result old mid c.args.steps.now c.ask_marked.new.steps) c.in-Nothing.is c.ask_marked.ensures.asked in
-    marked-behind c.capacity-high.result old mid new c.args.steps.now c.ask_marked.new.steps c.ask_marked-in-Nothing.new.steps c.in-Nothing.ahead c.ask_marked-in-Nothing.result c.capacity-high.ensures.value first c.ask_marked-in-Nothing.ensures.asked c.in_default-ask_marked.not-Nothing
+pub returns-in-Nothing-clause-served : goal.returns-in-Nothing-clause-served
+returns-in-Nothing-clause-served g c =
+    let old = c.args.self.now in
+    let mid = c.gather.new.self in
+    let looks = c.gather.ensures.found in
+    let then = held_ends c.walk.new.self in
+    let found : Gathered old.ready mid looks.0 = record { keeps = c.gather.ensures.keeps; listed = c.gather.ensures.listed; finds = looks.2 } in
+    let at : EndsSeat = record { held = old.held; marks = mid.marks } in
+    let first = subst (HasWalked Marked old.next c.capacity-high.result at then c.args.steps.now c.walk.new.steps c.args.was) c.in-Nothing.is c.walk.ensures.walked in
+    marked-behind c.capacity-high.result old c.walk-in-Nothing.new.self mid then c.args.listener.now c.gather.new.listener looks.0 c.args.steps.now c.walk.new.steps c.walk-in-Nothing.new.steps c.args.was c.in-Nothing.busy c.walk-in-Nothing.result
+    looks.1 found (omega arith) c.capacity-high.ensures.value first c.walk-in-Nothing.ensures.walked
 
 pub returns-in_default-clause-served : goal.returns-in_default-clause-served
 returns-in_default-clause-served g c =
-    marked-ahead c.capacity-high.result (held_ends c.args.self.now) (held_ends c.ask_marked.new.self) c.args.steps.now c.ask_marked.new.steps c.ask_marked.result c.ask_marked.ensures.asked c.in_default.not-Nothing
+    let old = c.args.self.now in
+    let mid = c.gather.new.self in
+    let looks = c.gather.ensures.found in
+    let found : Gathered old.ready mid looks.0 = record { keeps = c.gather.ensures.keeps; listed = c.gather.ensures.listed; finds = looks.2 } in
+    marked-ahead c.capacity-high.result old c.walk.new.self mid c.args.listener.now c.gather.new.listener looks.0 c.args.steps.now c.walk.new.steps c.args.was c.walk.result
+    looks.1 found c.walk.ensures.walked c.in_default.not-Nothing
+
+pub invariant_of-self : goal.invariant_of-self
+invariant_of-self g c =
+    let old = c.args.self.now in
+    record { room = old.room; reached = gathered old.held old.ready c.gather.new.self c.gather.ensures.keeps c.gather.ensures.listed old.reached }

@@ -1,9 +1,9 @@
 use Rattle.std.proofs.Common.{inl, subst}
-use Rattle.hub_loop.specs.Adopting.{stored, IsFetched, SameStored}
+use Rattle.hub_loop.specs.Adopting.{stored, IsFetched, KeepsFetched, SameStored}
 use Rattle.hub_loop.specs.Marking.{AreMarked}
 use Rattle.hub_loop.specs.Turning.{store_of}
 use Rattle.std.specs.Prelude.{false}
-use Rattle.hub_loop.proofs.Adopts.{fetched, stored-same}
+use Rattle.hub_loop.proofs.Adopts.{fetched, fetched-kept, fetched-same, stored-same}
 use Rattle.hub_loop.proofs.Marks.{marked-same}
 use Rattle.hub_loop.proofs.Notices.{on-err}
 use Rattle.hub_loop.proofs.event_loop.EventLoop.fetch.Goals as goal
@@ -17,6 +17,11 @@ pub returns-in_err-reserve-clause-marked : goal.returns-in_err-reserve-clause-ma
 returns-in_err-reserve-clause-marked g c =
     let ends = c.self.inside.holding.ends in
     subst (λ l. AreMarked l.holding.held l.holding.ready ends.held ends.ready) c.self.view_is (marked-same ends.held ends.ready)
+
+pub returns-in_err-reserve-clause-kept : goal.returns-in_err-reserve-clause-kept
+returns-in_err-reserve-clause-kept g c =
+    let new = c.reserve.new.self.items in
+    on-err c.from_residual.result (subst (λ l. KeepsFetched c.args.end l.fetched new) c.self.view_is (fetched-same c.self.inside.fetched.items new c.args.end c.reserve.ensures.items))
 
 pub returns-in_default-clause-ok : goal.returns-in_default-clause-ok
 returns-in_default-clause-ok g c =
@@ -50,3 +55,11 @@ pub returns-in-Err-clause-marked : goal.returns-in-Err-clause-marked
 returns-in-Err-clause-marked g c =
     let new = c.adopt_queue.new.self.ends in
     subst (λ l. AreMarked l.holding.held l.holding.ready new.held new.ready) c.self.view_is c.adopt_queue.ensures.marked
+
+pub returns-in-Err-clause-kept : goal.returns-in-Err-clause-kept
+returns-in-Err-clause-kept g c =
+    let new = c.push_reserved.new.self.items in
+    let some = c.in-Some.ensures in
+    subst (λ l. KeepsFetched c.args.end l.fetched new) c.self.view_is
+    (fetched-kept c.in-Some.queue c.in-Err.queue c.self.inside.fetched.items c.reserve.new.self.items c.take_fetched.new.fetched.items new c.args.end
+    c.reserve.ensures.items some.queue some.taken c.in-Err.ensures.back c.push_reserved.ensures.items)

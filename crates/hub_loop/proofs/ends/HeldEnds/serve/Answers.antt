@@ -1,0 +1,25 @@
+use Rattle.std.proofs.Common.{false, subst}
+use Rattle.hub_loop.specs.Scanning.{AreEachServed, AreMarkedServed}
+use Rattle.hub_loop.proofs.Scans.{served-first, served-last, served-then}
+use Rattle.hub_loop.proofs.ends.HeldEnds.serve.Goals as goal
+
+pub returns-in_default-clause-served : goal.returns-in_default-clause-served
+returns-in_default-clause-served g c =
+    served-first c.args.self.now c.serve_marked.new.self c.args.listener.now c.serve_marked.new.listener c.args.steps.now c.serve_marked.new.steps false c.serve_marked.result c.serve_marked.ensures.served c.in_default.not-Nothing
+
+pub returns-in_default-serve_each-clause-served : goal.returns-in_default-serve_each-clause-served
+returns-in_default-serve_each-clause-served g c =
+    let old = c.args.self.now in
+    let mid = c.serve_marked.new.self in
+    let first = subst (AreMarkedServed old mid c.args.listener.now c.serve_marked.new.listener c.args.steps.now c.serve_marked.new.steps false) c.in-Nothing.is c.serve_marked.ensures.served in
+    served-then old.next c.capacity-high.result old mid c.serve_each.new.self c.args.listener.now c.serve_marked.new.listener c.serve_each.new.listener c.args.steps.now c.serve_marked.new.steps c.serve_each.new.steps false c.in-Nothing.marked c.serve_each.result first c.serve_each.ensures.served c.in_default-serve_each.not-Nothing
+
+pub returns-in-Nothing-serve_each-clause-served : goal.returns-in-Nothing-serve_each-clause-served
+returns-in-Nothing-serve_each-clause-served g c =
+    let old = c.args.self.now in
+    let mid = c.serve_marked.new.self in
+    let then = c.serve_each.new.self in
+    let last = c.serve_each-in-Nothing-serve_each in
+    let first = subst (AreMarkedServed old mid c.args.listener.now c.serve_marked.new.listener c.args.steps.now c.serve_marked.new.steps false) c.in-Nothing.is c.serve_marked.ensures.served in
+    let ahead = subst (AreEachServed old.next c.capacity-high.result mid then c.serve_marked.new.listener c.serve_each.new.listener c.serve_marked.new.steps c.serve_each.new.steps c.in-Nothing.marked) c.in-Nothing-serve_each.is c.serve_each.ensures.served in
+    served-last c.capacity-high.result old mid then last.new.self c.args.listener.now c.serve_marked.new.listener c.serve_each.new.listener last.new.listener c.args.steps.now c.serve_marked.new.steps c.serve_each.new.steps last.new.steps c.in-Nothing.marked c.in-Nothing-serve_each.ahead last.result c.capacity-high.ensures.value first ahead last.ensures.served
