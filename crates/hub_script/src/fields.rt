@@ -85,7 +85,11 @@ pub(crate) fn url_in(
 }
 
 /// The texts of an array of two.
-pub(crate) fn pair_in(alloc: Global, line: &Value<'_>, name: &str) -> Result<(Text, Text), ScriptError>
+pub(crate) fn pair_in(
+    alloc: Global,
+    line: &Value<'_>,
+    name: &str,
+) -> Result<(Text, Text), ScriptError>
     ensures { IsRead result (field_in PAIR name.now (data_in line.now)) }
 {
     let texts = texts_of(alloc, value_in(line, name)?)?;
@@ -120,7 +124,11 @@ fn body_answer(alloc: Global, text: &str) -> Result<Result<Body, BodyError>, Scr
 }
 
 /// The texts of an array, none where the field is missing.
-pub(crate) fn list_in(alloc: Global, line: &Value<'_>, name: &str) -> Result<Items<Text>, ScriptError>
+pub(crate) fn list_in(
+    alloc: Global,
+    line: &Value<'_>,
+    name: &str,
+) -> Result<Items<Text>, ScriptError>
     ensures { IsRead result (field_in LIST name.now (data_in line.now)) }
 {
     match field_of(line, name) {
