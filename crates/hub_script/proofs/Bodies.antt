@@ -1,10 +1,9 @@
 -- The value of a field as a body.
-use Rattle.std.proofs.Common.{◌≡◌, ℕ, List, Option, Some, None, Ok, ap, sym, ◌∙◌}
-use Rattle.hub_text.specs.Reading.{◌>>=◌, some_or}
+use Rattle.std.proofs.Common.{◌≡◌, ℕ, List, Option, Some, Ok, ap, sym, ◌∙◌}
+use Rattle.hub_text.specs.Reading.{◌>>=◌}
 use Rattle.serde_json.specs.Data.{Data}
 use Rattle.serde_json.specs.Read.{read}
 use Rattle.hub_envelope.specs.Answer.{answer_of, answer_to}
-use Rattle.hub_script.specs.declared.error.ScriptError.TheVariants.{Syntax}
 use Rattle.hub_script.specs.Fields.{field_in, value_in}
 use Rattle.hub_script.specs.Shapes.{BODY}
 

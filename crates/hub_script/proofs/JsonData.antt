@@ -1,5 +1,5 @@
 -- The data that a JSON value stands for, and what is found in it.
-use Rattle.std.proofs.Common.{◌≡◌, ℕ, pos, ◌≤◌, ◌&&◌, max, List, [], ◌∷◌, ◌++◌, Bool, true, false, cond, Option, Some, None, option_map, option_and_then, Ok, Err, Ordering, Less, Equal, Greater, nat_cmp, is_eq, refl, ap, sym, subst, ◌∙◌, arith, append-nil, inl, inr, ◌⊎◌}
+use Rattle.std.proofs.Common.{◌≡◌, ℕ, pos, ◌≤◌, ◌&&◌, List, [], ◌++◌, Bool, true, false, cond, Option, Some, None, option_map, option_and_then, Ok, Err, Ordering, Less, Equal, Greater, nat_cmp, is_eq, refl, ap, sym, subst, ◌∙◌, arith, append-nil, inl, inr, ◌⊎◌}
 use Rattle.std.proofs.lemmas.Bool.{and_parts}
 use Rattle.std.proofs.lemmas.Map.Text.{is_eq-slice_cmp}
 use Rattle.std.specs.Cmp.Lexicographic.{bytes_decides, slice_cmp}
@@ -16,8 +16,8 @@ use Rattle.json.specs.Tree as tree
 use Rattle.json.proofs.Printed.Tokens.{tokens-print}
 use Rattle.json.proofs.Printed.Trees.{value-json_tokens, ArePrintable-json_tokens}
 use Rattle.json.proofs.Numbered.{HasNumbers-get}
-use Rattle.serde_json.specs.Data.{Num, negative, Data, null, boolean, number, string, array, object, Items, no_items, item, Members, no_members, member, put}
-use Rattle.serde_json.specs.Find.{as_array, as_object, as_str, get, get_member}
+use Rattle.serde_json.specs.Data.{Num, negative, Data, number, array, object, item, Members, no_members, member, put}
+use Rattle.serde_json.specs.Find.{as_str, get, get_member}
 use Rattle.serde_json.specs.Read.{max_depth, number_of, of_json, of_items as items_of_json, of_members as members_of_json, read}
 use Rattle.serde_json.proofs.Views.{get_member-put, get_member-put_other}
 use Rattle.hub_text.specs.Reading.{some_or}

@@ -1,6 +1,6 @@
-use Rattle.std.proofs.Common.{◌≡◌, sym, ap, ◌∙◌, inr}
+use Rattle.std.proofs.Common.{sym, ◌∙◌, inr}
 use Rattle.json.specs.Value.{value_view}
-use Rattle.hub_script.proofs.JsonData.{read_in_range, read_no_json, read_out_of_range}
+use Rattle.hub_script.proofs.JsonData.{read_in_range, read_out_of_range}
 use Rattle.hub_script.proofs.read_form.value_in.Goals as goal
 
 pub returns-then-is_in_range-clause-says : goal.returns-then-is_in_range-clause-says
