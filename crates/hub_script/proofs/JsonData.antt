@@ -1,5 +1,5 @@
 -- The data that a JSON value stands for, and what is found in it.
-use Rattle.std.proofs.Common.{◌≡◌, ℕ, pos, ◌≤◌, ◌&&◌, List, [], ◌++◌, Bool, true, false, cond, Option, Some, None, option_map, option_and_then, Ok, Err, Ordering, Less, Equal, Greater, nat_cmp, is_eq, refl, ap, sym, subst, ◌∙◌, arith, append-nil, inl, inr, ◌⊎◌}
+use Rattle.std.proofs.Common.{◌≡◌, ℕ, pos, ◌≤◌, ◌&&◌, List, [], ◌++◌, Bool, true, false, cond, Option, Some, None, option_map, option_and_then, Ok, Err, Ordering, Less, Equal, Greater, nat_cmp, is_eq, refl, ap, sym, subst, ◌∙◌, arith, append-nil}
 use Rattle.std.proofs.lemmas.Bool.{and_parts}
 use Rattle.std.proofs.lemmas.Map.Text.{is_eq-slice_cmp}
 use Rattle.std.specs.Cmp.Lexicographic.{bytes_decides, slice_cmp}
@@ -17,14 +17,13 @@ use Rattle.json.proofs.Printed.Tokens.{tokens-print}
 use Rattle.json.proofs.Printed.Trees.{value-json_tokens, ArePrintable-json_tokens}
 use Rattle.json.proofs.Numbered.{HasNumbers-get}
 use Rattle.serde_json.specs.Data.{Num, negative, Data, number, array, object, item, Members, no_members, member, put}
-use Rattle.serde_json.specs.Find.{as_str, get, get_member}
+use Rattle.serde_json.specs.Find.{get, get_member}
 use Rattle.serde_json.specs.Read.{max_depth, number_of, of_json, of_items as items_of_json, of_members as members_of_json, read}
 use Rattle.serde_json.proofs.Views.{get_member-put, get_member-put_other}
 use Rattle.hub_text.specs.Reading.{some_or}
-use Rattle.hub_script.specs.declared.error.ScriptError.{ScriptError}
-use Rattle.hub_script.specs.declared.error.ScriptError.TheVariants.{OutOfMemory, Syntax}
+use Rattle.hub_script.specs.declared.error.ScriptError.TheVariants.{Syntax}
 use Rattle.hub_script.specs.Fields.{ScriptRead, member_names}
-use Rattle.hub_script.specs.JsonData.{IsWritable, data_of, is_in_range, items_in_range, items_of, json_in, members_in_range, members_of, names_of}
+use Rattle.hub_script.specs.JsonData.{IsWritable, data_of, is_in_range, items_in_range, items_of, json_in, members_in_range, members_of, json_names}
 
 -- ---- a value is converted exactly where its numbers are in range
 
@@ -41,7 +40,7 @@ then_is f true c x y h = h
 then_is f false c x y h = refl
 
 mutual
-  pub converts : (j : json.Json) → of_json j ≡ cond (is_in_range j) (Some (data_of j)) None
+  converts : (j : json.Json) → of_json j ≡ cond (is_in_range j) (Some (data_of j)) None
   converts json.null = refl
   converts (json.boolean b) = refl
   converts (json.number s) = number_is (number_of s)
@@ -79,19 +78,11 @@ by_value : (o : Option json.Json) (j : json.Json) → some_or Syntax o ≡ Ok j 
 by_value None j h = cc
 by_value (Some i) j h = let same : i ≡ j = cc in ap (λ (x : json.Json). converted (Some x)) same
 
-by_error : (o : Option json.Json) (e : ScriptError) → some_or Syntax o ≡ Err e → converted o ≡ Err e
-by_error None e h = let same : Syntax ≡ e = cc in ap (λ (x : ScriptError). Err x) same
-by_error (Some i) e h = cc
-
 pub read_in_range : (text : List ℕ) (j : json.Json) → some_or Syntax (json_in text) ≡ Ok j → is_in_range j ≡ true → some_or Syntax (read text) ≡ Ok (data_of j)
 read_in_range text j h g = by_value (json_in text) j h ∙ ap (λ (o : Option Data). some_or Syntax o) (in_range j g)
 
 pub read_out_of_range : (text : List ℕ) (j : json.Json) → some_or Syntax (json_in text) ≡ Ok j → is_in_range j ≡ false → some_or Syntax (read text) ≡ Err Syntax
 read_out_of_range text j h g = by_value (json_in text) j h ∙ ap (λ (o : Option Data). some_or Syntax o) (out_of_range j g)
-
-pub read_no_json : (text : List ℕ) (e : ScriptError) → (e ≡ OutOfMemory) ⊎ (some_or Syntax (json_in text) ≡ Err e) → (e ≡ OutOfMemory) ⊎ (some_or Syntax (read text) ≡ Err e)
-read_no_json text e (inl h) = inl h
-read_no_json text e (inr h) = inr (by_error (json_in text) e h)
 
 -- ---- the field of a name is the last member of that name
 
@@ -114,7 +105,7 @@ one_after : (o p : Option json.Json) (e f : Option Data) → f ≡ after p e →
 one_after None p e f h = h
 one_after (Some j) p e f h = refl
 
-pub last_member : (name : List ℕ) (ms : json.Members) (found : Members) → get_member name (members_of ms found) ≡ after (find.get_member name ms) (get_member name found)
+last_member : (name : List ℕ) (ms : json.Members) (found : Members) → get_member name (members_of ms found) ≡ after (find.get_member name ms) (get_member name found)
 last_member name json.no_members found = refl
 last_member name (json.member k j ms) found =
     last_member name ms (put k (data_of j) found)
@@ -135,14 +126,6 @@ get-data_of name (json.object ms) = last_member name ms no_members ∙ after_non
 pub mapped : {A B C : Type 0} (f : A → B) (g : B → C) (o : Option A) → option_map (λ a. g (f a)) o ≡ option_map g (option_map f o)
 mapped f g None = refl
 mapped f g (Some a) = refl
-
-pub as_str-data_of : (j : json.Json) → as_str (data_of j) ≡ find.as_str j
-as_str-data_of json.null = refl
-as_str-data_of (json.boolean b) = refl
-as_str-data_of (json.number s) = refl
-as_str-data_of (json.string s) = refl
-as_str-data_of (json.array js) = refl
-as_str-data_of (json.object ms) = refl
 
 -- ---- the names are those of the members, each once
 
@@ -168,17 +151,17 @@ all_put : (p : List ℕ → Bool) (k : List ℕ) (d : Data) (ms : Members) → l
 all_put p k d no_members = refl
 all_put p k d (member l e ms) = put_at p (slice_cmp nat_cmp k l) k l d e ms refl (all_put p k d ms)
 
-all_of : (p : List ℕ → Bool) (ms : json.Members) (found : Members) → list_all p (member_names (members_of ms found)) ≡ (list_all p (names_of ms) && list_all p (member_names found))
+all_of : (p : List ℕ → Bool) (ms : json.Members) (found : Members) → list_all p (member_names (members_of ms found)) ≡ (list_all p (json_names ms) && list_all p (member_names found))
 all_of p json.no_members found = refl
-all_of p (json.member k j ms) found = all_of p ms (put k (data_of j) found) ∙ ap (λ b. list_all p (names_of ms) && b) (all_put p k (data_of j) found) ∙ mixed (p k) (list_all p (names_of ms)) (list_all p (member_names found))
+all_of p (json.member k j ms) found = all_of p ms (put k (data_of j) found) ∙ ap (λ b. list_all p (json_names ms) && b) (all_put p k (data_of j) found) ∙ mixed (p k) (list_all p (json_names ms)) (list_all p (member_names found))
   where
     mixed : (a b c : Bool) → (b && (a && c)) ≡ ((a && b) && c)
     mixed true b c = refl
     mixed false true c = refl
     mixed false false c = refl
 
-pub all_names : (p : List ℕ → Bool) (ms : json.Members) → list_all p (member_names (members_of ms no_members)) ≡ list_all p (names_of ms)
-all_names p ms = all_of p ms no_members ∙ and_true (list_all p (names_of ms))
+pub all_names : (p : List ℕ → Bool) (ms : json.Members) → list_all p (member_names (members_of ms no_members)) ≡ list_all p (json_names ms)
+all_names p ms = all_of p ms no_members ∙ and_true (list_all p (json_names ms))
   where
     and_true : (b : Bool) → (b && true) ≡ b
     and_true true = refl
@@ -186,7 +169,7 @@ all_names p ms = all_of p ms no_members ∙ and_true (list_all p (names_of ms))
 
 -- ---- a value in a field is written as the whole is
 
-abbrev pub Passes : (json.Json → Type 0) → Option json.Json → Type 0
+abbrev Passes : (json.Json → Type 0) → Option json.Json → Type 0
 Passes P None = ⊤
 Passes P (Some j) = P j
 
@@ -231,7 +214,7 @@ nests_in name (json.string s) n h = tt
 nests_in name (json.array js) n h = tt
 nests_in name (json.object ms) n h = members_nest name ms n (omega arith)
 
-pub found : (P : json.Json → Type 0) (o : Option json.Json) (j : json.Json) → Some j ≡ o → Passes P o → P j
+found : (P : json.Json → Type 0) (o : Option json.Json) (j : json.Json) → Some j ≡ o → Passes P o → P j
 found P o j e h = subst (Passes P) (sym e) h
 
 writable_part : (name : List ℕ) (j part : json.Json) → Some part ≡ find.get name j → IsWritable j → IsWritable part

@@ -45,9 +45,9 @@ abbrev mutual
   members_of json.no_members found = found
   members_of (json.member k j ms) found = members_of ms (put k (data_of j) found)
 
-abbrev pub names_of : json.Members → List (List ℕ)
-names_of json.no_members = []
-names_of (json.member k j ms) = k ∷ names_of ms
+abbrev pub json_names : json.Members → List (List ℕ)
+json_names json.no_members = []
+json_names (json.member k j ms) = k ∷ json_names ms
 
 abbrev pub data_in : {A : Type 0} → Value A → Data
 data_in v = data_of (value_view v)

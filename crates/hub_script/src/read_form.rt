@@ -7,7 +7,7 @@ ghost use Rattle.hub_script.specs.Fields.{IsRead};
 ghost use Rattle.hub_script.specs.Form.{fields_in, form_by, form_of, form_with, has_only};
 ghost use Rattle.hub_script.specs.Form.{object_in, text_form};
 ghost use Rattle.hub_script.specs.Shapes.{NUMBER, has_name};
-ghost use Rattle.hub_script.specs.JsonData.{IsWritable, data_in, json_in, names_of};
+ghost use Rattle.hub_script.specs.JsonData.{IsWritable, data_in, json_in, json_names};
 ghost use Rattle.hub_text.specs.Reading.{IsReadAs, some_or};
 ghost use Rattle.json.specs.Tree.{HasNumbers, depth};
 ghost use Rattle.json.specs.Value.{members_view, value_view};
@@ -190,7 +190,7 @@ fn has_only(keyword: Keyword, line: &Value<'_>) -> bool
 
 /// Each name is that of a field of the form.
 fn are_fields_of(keyword: Keyword, fields: &[(&str, Value<'_>)]) -> bool
-    ensures { result ≡ list_all (has_name keyword) (names_of (members_view fields.now)) }
+    ensures { result ≡ list_all (has_name keyword) (json_names (members_view fields.now)) }
 {
     for field in fields {
         if !keyword.has_field(field.0) {
