@@ -2,7 +2,7 @@
 
 A bench is a module bench/NAME/bench.py with a function `run(bench)`, where `bench` is a `Bench`. It
 describes jobs, lets them take turns, and reports figures of what they took, with or without a
-bound. A run counts only where its status is 0 and what it printed is right. Where one isn't, its
+bound. A run counts only where its status and what it printed are right. Where one isn't, its
 whole series is a failure, and with it each figure that stands on the series; where a tool is
 missing, they are left out. So a figure is never made of the runs that happened to go well.
 """
@@ -139,9 +139,11 @@ class Program:
         """A run that times itself, and prints `told` behind its microseconds."""
         return Job(self, arguments, tells(*told), held=held, has_own_clock=True)
 
-    def whole(self, *arguments, check, source=None, with_memory=False):
-        """A run that is timed from the start of the process to its end."""
-        return Job(self, arguments, check, source=source, with_memory=with_memory)
+    def whole(self, *arguments, check, source=None, with_memory=False, status=0):
+        """A run that is timed from the start of the process to its end, with this status."""
+        return Job(
+            self, arguments, check, source=source, with_memory=with_memory, status=status
+        )
 
 
 @dataclasses.dataclass(frozen=True)
@@ -149,7 +151,7 @@ class Job:
     """A program with its arguments, and a check that reads the file that it printed to.
 
     The check returns the numbers that the program told, and raises Failure. `held` is a run on two
-    processors alone, and `source` the file that it reads.
+    processors alone, `source` the file that it reads, and `status` the one that it ends with.
     """
 
     program: Program
@@ -159,6 +161,7 @@ class Job:
     held: bool = False
     has_own_clock: bool = False
     with_memory: bool = False
+    status: int = 0
 
     def words(self):
         return [str(word) for word in (*self.program.words, *self.arguments)]
@@ -503,7 +506,7 @@ class Bench:
         before, begin = resource.getrusage(resource.RUSAGE_CHILDREN), time.perf_counter()
         status = self.status_of(words, job, output, errors)
         wall, after = time.perf_counter() - begin, resource.getrusage(resource.RUSAGE_CHILDREN)
-        if status != 0:
+        if status != job.status:
             raise Failure(described(status, errors.read_text("utf-8", "replace")))
         told = job.check(output)
         return Run(

@@ -1,4 +1,5 @@
 pub mod Arrays
+pub mod JsonData
 pub mod Bodies
 pub mod Changes
 pub mod LineTexts

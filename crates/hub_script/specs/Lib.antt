@@ -1,6 +1,7 @@
 pub mod Shapes
 pub mod Fields
 pub mod Form
+pub mod JsonData
 pub mod Contents
 pub mod Known
 pub mod Uses

@@ -1,64 +1,66 @@
 //! The fields of the JSON object that a text line is, by what they may have.
 
-ghost use Rattle.std.specs.Prelude.{◌≡◌, ◌≤◌};
+ghost use Rattle.std.specs.Prelude.{IfOk};
 ghost use Rattle.hub_envelope.specs.Answer.{answer_of};
 ghost use Rattle.hub_script.specs.Fields.{IsRead, field_in, texts_of, value_in};
 ghost use Rattle.hub_script.specs.Shapes.{BODY, EVENT, KIND, LIST, NUMBER, PAIR, QUEUE_WORD};
 ghost use Rattle.hub_script.specs.Shapes.{TEXT, URL};
+ghost use Rattle.hub_script.specs.JsonData.{IsWritable, data_in};
 ghost use Rattle.hub_text.specs.Reading.{IsReadAs};
-ghost use Rattle.serde_json.specs.Data.{depth};
-ghost use Rattle.serde_json.specs.Read.{max_depth};
-ghost use Rattle.serde_json.specs.View.{view};
+ghost use Rattle.json.specs.Value.{value_view};
 
 use crate::error::ScriptError;
 use crate::script::AgentKind;
+use crate::values::{field_of, items_of, str_of, u64_of};
 use hub_envelope::{Body, BodyError, Items, Text};
 use hub_life::Event;
 use hub_origin::{Origin, OriginError, origin_of};
-use serde_json::Value;
+use json::{Value, to_vec};
 use std::alloc::Global;
 
 /// The name that stands for an agent's own queue. No port or member can have it.
 pub(crate) const QUEUE: &str = "queue";
 
-fn value_in<'a>(line: &'a Value, name: &str) -> Result<&'a Value, ScriptError>
-    ensures { IsReadAs ScriptError.OutOfMemory (λ v. view v.now) result
-        (value_in name.now (view line.now)) }
+fn value_in<'v, 'a>(line: &'v Value<'a>, name: &str) -> Result<&'v Value<'a>, ScriptError>
+    ensures says { IsReadAs ScriptError.OutOfMemory (λ v. data_in v.now) result
+        (value_in name.now (data_in line.now)) }
+    ensures writable { IfOk result
+        (λ v. IsWritable (value_view line.now) → IsWritable (value_view v.now)) }
 {
-    match line.get(name) {
+    match field_of(line, name) {
         Some(value) => Ok(value),
         None => Err(ScriptError::Syntax),
     }
 }
 
-fn word_in<'a>(line: &'a Value, name: &str) -> Result<&'a str, ScriptError>
+fn word_in<'a>(line: &Value<'a>, name: &str) -> Result<&'a str, ScriptError>
     ensures { IsReadAs ScriptError.OutOfMemory (λ word. word.now) result
-        (field_in TEXT name.now (view line.now)) }
+        (field_in TEXT name.now (data_in line.now)) }
 {
-    match line.get(name).and_then(Value::as_str) {
+    match field_of(line, name).and_then(str_of) {
         Some(word) => Ok(word),
         None => Err(ScriptError::Syntax),
     }
 }
 
-pub(crate) fn text_in(alloc: Global, line: &Value, name: &str) -> Result<Text, ScriptError>
-    ensures { IsRead result (field_in TEXT name.now (view line.now)) }
+pub(crate) fn text_in(alloc: Global, line: &Value<'_>, name: &str) -> Result<Text, ScriptError>
+    ensures { IsRead result (field_in TEXT name.now (data_in line.now)) }
 {
     Ok(Text::of(alloc, word_in(line, name)?)?)
 }
 
 /// A whole number below 2^32.
-pub(crate) fn number_in(line: &Value, name: &str) -> Result<u32, ScriptError>
-    ensures { IsRead result (field_in NUMBER name.now (view line.now)) }
+pub(crate) fn number_in(line: &Value<'_>, name: &str) -> Result<u32, ScriptError>
+    ensures { IsRead result (field_in NUMBER name.now (data_in line.now)) }
 {
-    match line.get(name).and_then(Value::as_u64) {
+    match field_of(line, name).and_then(u64_of) {
         Some(number) if number <= u64::from(u32::MAX) => Ok(number as u32),
         _ => Err(ScriptError::Syntax),
     }
 }
 
-pub(crate) fn kind_in(line: &Value, name: &str) -> Result<AgentKind, ScriptError>
-    ensures { IsRead result (field_in KIND name.now (view line.now)) }
+pub(crate) fn kind_in(line: &Value<'_>, name: &str) -> Result<AgentKind, ScriptError>
+    ensures { IsRead result (field_in KIND name.now (data_in line.now)) }
 {
     match word_in(line, name)? {
         "window" => Ok(AgentKind::Window),
@@ -70,10 +72,10 @@ pub(crate) fn kind_in(line: &Value, name: &str) -> Result<AgentKind, ScriptError
 /// What `origin_of` answers, unless memory runs out.
 pub(crate) fn url_in(
     alloc: Global,
-    line: &Value,
+    line: &Value<'_>,
     name: &str,
 ) -> Result<Result<Origin, OriginError>, ScriptError>
-    ensures { IsRead result (field_in URL name.now (view line.now)) }
+    ensures { IsRead result (field_in URL name.now (data_in line.now)) }
 {
     let url = word_in(line, name)?;
     match origin_of(alloc, url) {
@@ -83,8 +85,12 @@ pub(crate) fn url_in(
 }
 
 /// The texts of an array of two.
-pub(crate) fn pair_in(alloc: Global, line: &Value, name: &str) -> Result<(Text, Text), ScriptError>
-    ensures { IsRead result (field_in PAIR name.now (view line.now)) }
+pub(crate) fn pair_in(
+    alloc: Global,
+    line: &Value<'_>,
+    name: &str,
+) -> Result<(Text, Text), ScriptError>
+    ensures { IsRead result (field_in PAIR name.now (data_in line.now)) }
 {
     let texts = texts_of(alloc, value_in(line, name)?)?;
     match texts.as_slice() {
@@ -96,15 +102,15 @@ pub(crate) fn pair_in(alloc: Global, line: &Value, name: &str) -> Result<(Text, 
 /// What `Body::read` answers of the value's text, unless memory runs out.
 pub(crate) fn body_in(
     alloc: Global,
-    line: &Value,
+    line: &Value<'_>,
     name: &str,
 ) -> Result<Result<Body, BodyError>, ScriptError>
-    requires nests { depth (view line.now) ≤ max_depth }
-    ensures { IsRead result (field_in BODY name.now (view line.now)) }
+    requires writable { IsWritable (value_view line.now) }
+    ensures { IsRead result (field_in BODY name.now (data_in line.now)) }
 {
     let value = value_in(line, name)?;
-    let text = value.to_string(alloc)?;
-    body_answer(alloc, text.as_str())
+    let bytes = to_vec(alloc, value)?;
+    body_answer(alloc, str::from_utf8(&bytes).unwrap())
 }
 
 /// What `Body::read` answers, unless memory runs out.
@@ -118,25 +124,29 @@ fn body_answer(alloc: Global, text: &str) -> Result<Result<Body, BodyError>, Scr
 }
 
 /// The texts of an array, none where the field is missing.
-pub(crate) fn list_in(alloc: Global, line: &Value, name: &str) -> Result<Items<Text>, ScriptError>
-    ensures { IsRead result (field_in LIST name.now (view line.now)) }
+pub(crate) fn list_in(
+    alloc: Global,
+    line: &Value<'_>,
+    name: &str,
+) -> Result<Items<Text>, ScriptError>
+    ensures { IsRead result (field_in LIST name.now (data_in line.now)) }
 {
-    match line.get(name) {
+    match field_of(line, name) {
         Some(value) => texts_of(alloc, value),
         None => Ok(Items::none(alloc)),
     }
 }
 
 /// The texts of an array.
-fn texts_of(alloc: Global, value: &Value) -> Result<Items<Text>, ScriptError>
-    ensures { IsRead result (texts_of (view value.now)) }
+fn texts_of(alloc: Global, value: &Value<'_>) -> Result<Items<Text>, ScriptError>
+    ensures { IsRead result (texts_of (data_in value.now)) }
 {
-    let Some(list) = value.as_array() else {
+    let Some(list) = items_of(value) else {
         return Err(ScriptError::Syntax);
     };
     let mut texts = Items::none(alloc);
     for item in list {
-        let Some(text) = item.as_str() else {
+        let Some(text) = str_of(item) else {
             return Err(ScriptError::Syntax);
         };
         texts.push(Text::of(alloc, text)?)?;
@@ -145,8 +155,8 @@ fn texts_of(alloc: Global, value: &Value) -> Result<Items<Text>, ScriptError>
 }
 
 /// The word `queue`.
-pub(crate) fn queue_in(line: &Value, name: &str) -> Result<(), ScriptError>
-    ensures { IsRead result (field_in QUEUE_WORD name.now (view line.now)) }
+pub(crate) fn queue_in(line: &Value<'_>, name: &str) -> Result<(), ScriptError>
+    ensures { IsRead result (field_in QUEUE_WORD name.now (data_in line.now)) }
 {
     if word_in(line, name)? == QUEUE {
         Ok(())
@@ -155,8 +165,8 @@ pub(crate) fn queue_in(line: &Value, name: &str) -> Result<(), ScriptError>
     }
 }
 
-pub(crate) fn event_in(line: &Value, name: &str) -> Result<Event, ScriptError>
-    ensures { IsRead result (field_in EVENT name.now (view line.now)) }
+pub(crate) fn event_in(line: &Value<'_>, name: &str) -> Result<Event, ScriptError>
+    ensures { IsRead result (field_in EVENT name.now (data_in line.now)) }
 {
     match Event::named(word_in(line, name)?) {
         Some(event) => Ok(event),

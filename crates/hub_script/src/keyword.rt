@@ -1,8 +1,9 @@
 ghost use Rattle.std.specs.Prelude.{◌≡◌};
 ghost use Rattle.hub_script.specs.Shapes.{has_name, keyword_of, form_word};
-ghost use Rattle.serde_json.specs.View.{view};
+ghost use Rattle.hub_script.specs.JsonData.{data_in};
 
-use serde_json::Value;
+use crate::values::field_of;
+use json::Value;
 
 /// The field that says which form a script line has. Each form has one of them.
 #[derive(Clone, Copy, Debug, PartialEq, Eq)]
@@ -44,13 +45,13 @@ pub(crate) const KEYWORDS: [Keyword; 15] = [
 
 impl Keyword {
     /// The first keyword that the object has as a field.
-    pub(crate) fn of(line: &Value) -> Option<Keyword>
-        ensures { result ≡ keyword_of (view line.now) }
+    pub(crate) fn of(line: &Value<'_>) -> Option<Keyword>
+        ensures { result ≡ keyword_of (data_in line.now) }
     {
         KEYWORDS
             .iter()
             .copied()
-            .find(|keyword| line.get(keyword.word()).is_some())
+            .find(|keyword| field_of(line, keyword.word()).is_some())
     }
 
     /// The field's name.

@@ -11,11 +11,13 @@ mod error;
 mod fields;
 mod form;
 mod keyword;
+mod number;
 mod read;
 mod read_form;
 mod script;
 mod script_reader;
 mod testing;
+mod values;
 
 pub use action::{Action, ActionKind};
 pub use error::{DataCloneCause, ScriptError};

@@ -12,6 +12,7 @@ use crate::read_form::read_form;
 use crate::script::Script;
 use crate::script_reader::ScriptReader;
 use hub_text::split_text_line;
+use json::Scratch;
 use std::alloc::Global;
 
 impl Script {
@@ -32,12 +33,14 @@ impl Script {
         ensures refusals { IsExplained text.now result }
     {
         let mut reader = ScriptReader::new(alloc);
+        // What reading a text line takes is kept for the next one.
+        let mut scratch = Scratch::new(alloc);
         let mut number = 0;
         let mut rest = text;
         while !rest.is_empty() {
             let (line, after) = split_text_line(rest);
             number += 1;
-            if let Err(error) = reader.add_line(alloc, line) {
+            if let Err(error) = reader.add_line(alloc, &mut scratch, line) {
                 return Err((number, error));
             }
             rest = after;
@@ -49,13 +52,18 @@ impl Script {
 impl ScriptReader {
     ghost use Rattle.hub_script.specs.Reader.{known};
 
-    fn add_line(&mut self, alloc: Global, line: &[u8]) -> Result<(), ScriptError>
+    fn add_line(
+        &mut self,
+        alloc: Global,
+        scratch: &mut Scratch,
+        line: &[u8],
+    ) -> Result<(), ScriptError>
         ensures says { IsReadAs ScriptError.OutOfMemory (λ _. known self.new) result
             (after_line (known self.old) line.now) }
         ensures memory { IfErr result
             (λ e. e ≡ ScriptError.OutOfMemory → is_utf8 line.now ≡ true) }
     {
-        let form = read_form(alloc, line)?;
+        let form = read_form(alloc, scratch, line)?;
         self.add_form(alloc, form)
     }
 }

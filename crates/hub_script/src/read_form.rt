@@ -1,15 +1,17 @@
 //! The form of a text line, field by field.
 
 ghost use Rattle.std.specs.Prelude.{◌≡◌, ◌≤◌, [], ◌∷◌, true, codes, IfErr, IfOk, OnOk};
+ghost use Rattle.std.specs.List.{list_all};
 ghost use Rattle.std.specs.Str.{is_utf8};
 ghost use Rattle.hub_script.specs.Fields.{IsRead};
 ghost use Rattle.hub_script.specs.Form.{fields_in, form_by, form_of, form_with, has_only};
 ghost use Rattle.hub_script.specs.Form.{object_in, text_form};
-ghost use Rattle.hub_script.specs.Shapes.{NUMBER};
-ghost use Rattle.hub_text.specs.Reading.{IsReadAs};
-ghost use Rattle.serde_json.specs.Data.{depth};
-ghost use Rattle.serde_json.specs.Read.{max_depth};
-ghost use Rattle.serde_json.specs.View.{view};
+ghost use Rattle.hub_script.specs.Shapes.{NUMBER, has_name};
+ghost use Rattle.hub_script.specs.JsonData.{IsWritable, data_in, json_in, json_names};
+ghost use Rattle.hub_text.specs.Reading.{IsReadAs, some_or};
+ghost use Rattle.json.specs.Tree.{HasNumbers, depth};
+ghost use Rattle.json.specs.Value.{members_view, value_view};
+ghost use Rattle.serde_json.specs.Read.{max_depth, read};
 
 use crate::error::ScriptError;
 use crate::fields::{
@@ -17,12 +19,20 @@ use crate::fields::{
 };
 use crate::form::{ActionForm, Form};
 use crate::keyword::Keyword;
-use serde_json::Value;
+use crate::values::{is_in_range, is_object};
+use json::{Error, Reader, Scratch, Value};
 use std::alloc::Global;
+
+/// How deep arrays and objects may nest in a text line.
+const MAX_DEPTH: usize = 127;
 
 /// The form that a text line has.
 #[tactic(auto, unfolding(crate::specs::Form::form_of))]
-pub(crate) fn read_form(alloc: Global, bytes: &[u8]) -> Result<Form, ScriptError>
+pub(crate) fn read_form(
+    alloc: Global,
+    scratch: &mut Scratch,
+    bytes: &[u8],
+) -> Result<Form, ScriptError>
     ensures says { IsRead result (form_of bytes.now) }
     // Only a text takes memory.
     ensures memory { IfErr result (λ e. e ≡ ScriptError.OutOfMemory → is_utf8 bytes.now ≡ true) }
@@ -31,15 +41,15 @@ pub(crate) fn read_form(alloc: Global, bytes: &[u8]) -> Result<Form, ScriptError
     let Ok(text) = str::from_utf8(bytes) else {
         return Err(ScriptError::Syntax);
     };
-    text_form(alloc, text)
+    text_form(alloc, scratch, text)
 }
 
 /// The form of the JSON object that the text is.
 #[tactic(auto, unfolding(crate::specs::Form::text_form))]
-fn text_form(alloc: Global, text: &str) -> Result<Form, ScriptError>
+fn text_form(alloc: Global, scratch: &mut Scratch, text: &str) -> Result<Form, ScriptError>
     ensures { IsRead result (text_form text.now) }
 {
-    let line = object_in(alloc, text)?;
+    let line = object_in(alloc, scratch, text)?;
     let Some(keyword) = Keyword::of(&line) else {
         return Err(ScriptError::UnknownAction);
     };
@@ -47,23 +57,68 @@ fn text_form(alloc: Global, text: &str) -> Result<Form, ScriptError>
 }
 
 /// The JSON object that the text is.
-fn object_in(alloc: Global, text: &str) -> Result<Value, ScriptError>
-    ensures says { IsReadAs ScriptError.OutOfMemory view result (object_in text.now) }
-    ensures nests { IfOk result (λ line. depth (view line) ≤ max_depth) }
+fn object_in<'a>(
+    alloc: Global,
+    scratch: &'a mut Scratch,
+    text: &'a str,
+) -> Result<Value<'a>, ScriptError>
+    ensures says { IsReadAs ScriptError.OutOfMemory data_in result (object_in text.now) }
+    ensures writable { IfOk result (λ line. IsWritable (value_view line)) }
 {
-    match Value::from_str(alloc, text) {
-        Ok(line) if line.is_object() => Ok(line),
-        Ok(_) => Err(ScriptError::Syntax),
-        Err(error) if error.is_memory() => Err(ScriptError::OutOfMemory),
-        Err(_) => Err(ScriptError::Syntax),
+    let line = value_in(alloc, scratch, text)?;
+    if is_object(&line) {
+        Ok(line)
+    } else {
+        Err(ScriptError::Syntax)
     }
+}
+
+/// The JSON value that the text is, where its numbers are in range.
+fn value_in<'a>(
+    alloc: Global,
+    scratch: &'a mut Scratch,
+    text: &'a str,
+) -> Result<Value<'a>, ScriptError>
+    ensures says { IsReadAs ScriptError.OutOfMemory data_in result
+        (some_or ScriptError.Syntax (read text.now)) }
+    ensures writable { IfOk result (λ value. IsWritable (value_view value)) }
+{
+    let value = json_in(alloc, scratch, text)?;
+    if is_in_range(&value) {
+        Ok(value)
+    } else {
+        Err(ScriptError::Syntax)
+    }
+}
+
+/// The JSON value that the text is, whatever its numbers are.
+fn json_in<'a>(
+    alloc: Global,
+    scratch: &'a mut Scratch,
+    text: &'a str,
+) -> Result<Value<'a>, ScriptError>
+    ensures says { IsReadAs ScriptError.OutOfMemory value_view result
+        (some_or ScriptError.Syntax (json_in text.now)) }
+    ensures numbers { IfOk result (λ value. HasNumbers (value_view value)) }
+    ensures nests { IfOk result (λ value. depth (value_view value) ≤ max_depth) }
+{
+    let mut reader = Reader::new(text, scratch)?;
+    let value = match Value::read(alloc, &mut reader, MAX_DEPTH) {
+        Ok(value) => value,
+        Err(Error::Invalid) => return Err(ScriptError::Syntax),
+        Err(_) => return Err(ScriptError::OutOfMemory),
+    };
+    if reader.next().is_some() {
+        return Err(ScriptError::Syntax);
+    }
+    Ok(value)
 }
 
 /// The form that the keyword stands for.
 #[tactic(auto, unfolding(crate::specs::Form::form_with))]
-fn form_with(alloc: Global, keyword: Keyword, line: &Value) -> Result<Form, ScriptError>
-    requires nests { depth (view line.now) ≤ max_depth }
-    ensures { IsRead result (form_with keyword (view line.now)) }
+fn form_with(alloc: Global, keyword: Keyword, line: &Value<'_>) -> Result<Form, ScriptError>
+    requires writable { IsWritable (value_view line.now) }
+    ensures { IsRead result (form_with keyword (data_in line.now)) }
 {
     if has_only(keyword, line) {
         form_by(alloc, keyword, line)
@@ -73,9 +128,9 @@ fn form_with(alloc: Global, keyword: Keyword, line: &Value) -> Result<Form, Scri
 }
 
 /// The form that the keyword's fields make.
-fn form_by(alloc: Global, keyword: Keyword, line: &Value) -> Result<Form, ScriptError>
-    requires nests { depth (view line.now) ≤ max_depth }
-    ensures { IsRead result (form_by keyword (view line.now)) }
+fn form_by(alloc: Global, keyword: Keyword, line: &Value<'_>) -> Result<Form, ScriptError>
+    requires writable { IsWritable (value_view line.now) }
+    ensures { IsRead result (form_by keyword (data_in line.now)) }
 {
     match keyword {
         Keyword::Agent => agent_form(alloc, line),
@@ -124,42 +179,54 @@ fn form_by(alloc: Global, keyword: Keyword, line: &Value) -> Result<Form, Script
 }
 
 /// Each field of the object is one of the form's.
-fn has_only(keyword: Keyword, line: &Value) -> bool
-    ensures { result ≡ has_only keyword (view line.now) }
+fn has_only(keyword: Keyword, line: &Value<'_>) -> bool
+    ensures { result ≡ has_only keyword (data_in line.now) }
 {
-    match line.as_object() {
-        Some(fields) => fields.keys().all(|name| keyword.has_field(name.as_str())),
-        None => true,
+    match line {
+        Value::Object(fields) => are_fields_of(keyword, fields),
+        _ => true,
     }
 }
 
+/// Each name is that of a field of the form.
+fn are_fields_of(keyword: Keyword, fields: &[(&str, Value<'_>)]) -> bool
+    ensures { result ≡ list_all (has_name keyword) (json_names (members_view fields.now)) }
+{
+    for field in fields {
+        if !keyword.has_field(field.0) {
+            return false;
+        }
+    }
+    true
+}
+
 /// The action of the agent that the field `at` names.
-fn at_agent(line: &Value, action: ActionForm) -> Result<Form, ScriptError>
+fn at_agent(line: &Value<'_>, action: ActionForm) -> Result<Form, ScriptError>
     ensures { IsRead result (fields_in ((codes "at", NUMBER) ∷ []) (λ at. Form.Action at action)
-        (view line.now)) }
+        (data_in line.now)) }
 {
     let at = number_in(line, "at")?;
     Ok(Form::Action { at, action })
 }
 
-fn agent_form(alloc: Global, line: &Value) -> Result<Form, ScriptError>
-    ensures { IsRead result (form_by Keyword.Agent (view line.now)) }
+fn agent_form(alloc: Global, line: &Value<'_>) -> Result<Form, ScriptError>
+    ensures { IsRead result (form_by Keyword.Agent (data_in line.now)) }
 {
     let kind = kind_in(line, "agent")?;
     let origin = url_in(alloc, line, "origin")?;
     Ok(Form::Agent { kind, origin })
 }
 
-fn channel_form(alloc: Global, line: &Value) -> Result<Form, ScriptError>
-    ensures { IsRead result (form_by Keyword.Channel (view line.now)) }
+fn channel_form(alloc: Global, line: &Value<'_>) -> Result<Form, ScriptError>
+    ensures { IsRead result (form_by Keyword.Channel (data_in line.now)) }
 {
     let (first, second) = pair_in(alloc, line, "channel")?;
     let at = number_in(line, "at")?;
     Ok(Form::Channel { first, second, at })
 }
 
-fn member_form(alloc: Global, line: &Value) -> Result<Form, ScriptError>
-    ensures { IsRead result (form_by Keyword.Member (view line.now)) }
+fn member_form(alloc: Global, line: &Value<'_>) -> Result<Form, ScriptError>
+    ensures { IsRead result (form_by Keyword.Member (data_in line.now)) }
 {
     let name = text_in(alloc, line, "member")?;
     let at = number_in(line, "at")?;
@@ -167,9 +234,9 @@ fn member_form(alloc: Global, line: &Value) -> Result<Form, ScriptError>
     Ok(Form::Member { name, at, on })
 }
 
-fn post_form(alloc: Global, line: &Value) -> Result<Form, ScriptError>
-    requires nests { depth (view line.now) ≤ max_depth }
-    ensures { IsRead result (form_by Keyword.Post (view line.now)) }
+fn post_form(alloc: Global, line: &Value<'_>) -> Result<Form, ScriptError>
+    requires writable { IsWritable (value_view line.now) }
+    ensures { IsRead result (form_by Keyword.Post (data_in line.now)) }
 {
     let port = text_in(alloc, line, "post")?;
     let body = body_in(alloc, line, "body")?;
@@ -184,9 +251,9 @@ fn post_form(alloc: Global, line: &Value) -> Result<Form, ScriptError>
     )
 }
 
-fn send_form(alloc: Global, line: &Value) -> Result<Form, ScriptError>
-    requires nests { depth (view line.now) ≤ max_depth }
-    ensures { IsRead result (form_by Keyword.Send (view line.now)) }
+fn send_form(alloc: Global, line: &Value<'_>) -> Result<Form, ScriptError>
+    requires writable { IsWritable (value_view line.now) }
+    ensures { IsRead result (form_by Keyword.Send (data_in line.now)) }
 {
     let to = number_in(line, "send")?;
     let body = body_in(alloc, line, "body")?;
@@ -194,9 +261,9 @@ fn send_form(alloc: Global, line: &Value) -> Result<Form, ScriptError>
     at_agent(line, ActionForm::Send { to, body, transfer })
 }
 
-fn cast_form(alloc: Global, line: &Value) -> Result<Form, ScriptError>
-    requires nests { depth (view line.now) ≤ max_depth }
-    ensures { IsRead result (form_by Keyword.Cast (view line.now)) }
+fn cast_form(alloc: Global, line: &Value<'_>) -> Result<Form, ScriptError>
+    requires writable { IsWritable (value_view line.now) }
+    ensures { IsRead result (form_by Keyword.Cast (data_in line.now)) }
 {
     let member = text_in(alloc, line, "cast")?;
     let body = body_in(alloc, line, "body")?;
