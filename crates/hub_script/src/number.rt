@@ -1,6 +1,7 @@
 //! The numbers of JSON texts, read as `serde_json` reads them.
 
-ghost use Rattle.std.specs.Prelude.{◌≡◌, ◌==◌, ◌<◌, slice_index, option_map, length, false, true, IsTrue};
+ghost use Rattle.std.specs.Prelude.{◌≡◌, ◌==◌, ◌<◌, length, slice_index, option_map};
+ghost use Rattle.std.specs.Prelude.{false, true, IsTrue};
 ghost use Rattle.serde_json.specs.Read.{float_of, number_from, number_of};
 ghost use Rattle.serde_json.specs.View.{number_view};
 
