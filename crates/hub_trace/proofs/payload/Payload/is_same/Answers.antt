@@ -3,7 +3,7 @@ use Rattle.std.specs.Cmp.{unsigned_Decides}
 use Rattle.std.specs.Cmp.Lexicographic.{bytes_decides}
 use Rattle.std.proofs.lemmas.Slice.Eq.{slice_eq-Decides}
 use Rattle.hub_envelope.specs.declared.ids.EndId.{EndId}
-use Rattle.hub_trace.proofs.message.Payload.is_same.Goals as goal
+use Rattle.hub_trace.proofs.payload.Payload.is_same.Goals as goal
 
 same_end : (a b : EndId) → Decides (a.0 == b.0) (a ≡ b)
 same_end a b =
