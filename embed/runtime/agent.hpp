@@ -8,6 +8,8 @@
 
 #include <js/Array.h>
 #include <js/CompilationAndEvaluation.h>
+#include <js/ForOfIterator.h>
+#include <js/PropertyDescriptor.h>
 #include <js/SourceText.h>
 #include <js/StructuredClone.h>
 #include <jsfriendapi.h>
@@ -31,6 +33,7 @@ inline constexpr std::uint32_t slot_and_finalizer =
 template <typename Native> Native *behind(JSObject *object) {
     return JS::GetMaybePtrFromReservedSlot<Native>(object, native_slot);
 }
+
 template <typename Native> std::size_t moved(JSObject *object, JSObject *) {
     if (auto *native = behind<Native>(object)) native->object.unbarrieredSet(object);
     return 0;
@@ -57,36 +60,22 @@ struct ScriptPort {
 
     bool keeps_program() const { return is_started && kind <= Kind::worker; }
 };
-void set_port(JSObject *object, ScriptPort *port);
-// Closes a port, and all ports in what nobody read, without a call within a call.
-void discard(ScriptPort *port);
 
-// What a message carries: a cloned value with its ports. A small clone with nothing but bytes is a
-// part of this, since a queue may have many.
+void set_port(JSObject *object, ScriptPort *port);
+// Closes a port if there is one, and all ports in what nobody read, without a call within a call.
+void discard(ScriptPort *port);
+// What a message carries: the engine's clone of a value, and the ports that nobody has read.
 struct Parcel final : varukoni::Body {
-    struct Rest {
-        JSStructuredCloneData data;
-        Ends ends;
-    };
-    std::unique_ptr<Rest> rest;
+    JSStructuredCloneData data;
+    mutable std::vector<ScriptPort *> ports;
     // In a recording: its number on its line.
     std::uint64_t number = 0;
-    const std::size_t size;
     // It tells of an error that nobody has handled in the worker that posts it.
     bool is_error = false;
-    static std::unique_ptr<Parcel> of(std::size_t size) {
-        return std::unique_ptr<Parcel>(new (size) Parcel(size));
-    }
-    char *bytes() { return reinterpret_cast<char *>(this + 1); }
-    const char *bytes() const { return reinterpret_cast<const char *>(this + 1); }
+    explicit Parcel(JSStructuredCloneData &&clone) : data(std::move(clone)) {}
     std::string text() const;
-    Ends ends() const { return rest ? rest->ends : Ends(); }
-    void operator delete(void *at) { ::operator delete(at); }
-
-  private:
-    explicit Parcel(std::size_t given) : size(given) {}
-    static void *operator new(size_t own, size_t room) { return ::operator new(own + room); }
-    static void operator delete(void *at, std::size_t) { ::operator delete(at); }
+    Ends ends() const;
+    ~Parcel() { for (ScriptPort *port : ports) discard(port); }
 };
 
 // A message to the broadcast channels of one agent that have its name.
@@ -152,7 +141,8 @@ class Agent {
     // object where there is one. False where it throws, or the agent is ending.
     bool call(const char *hook, const HandleValueArray &words, MutableHandleValue result);
     void call(const char *hook, JSObject *object, HandleValue more = JS::UndefinedHandleValue);
-    void throw_named(const char *name, const char *message);
+    // False, as an error is thrown: a TypeError, or else a DOMException.
+    bool throw_named(const char *name, const char *message);
     void report_pending();
     void checkpoint();
     bool take_ends(std::uint32_t count, std::uint32_t &first);
@@ -168,11 +158,12 @@ class Agent {
     void start(ScriptPort &port);
     void close(ScriptPort &port);
 
-    std::unique_ptr<Parcel> write(HandleValue value, HandleValue list, class Transfer *ports);
+    std::unique_ptr<Parcel> write(HandleValue value, class Transfer *listed = nullptr);
     bool read(const Parcel &parcel, AgentLog *moves, MutableHandleValue value,
               MutableHandleValue ports);
-    bool post(HandleObject object, HandleValue value, HandleValue list);
-    bool clone(HandleValue value, HandleValue list, MutableHandleValue result);
+    bool list_of(HandleValue given, JS::MutableHandleValueVector list);
+    bool post(HandleObject object, HandleValue value, const HandleValueArray &list);
+    bool clone(HandleValue value, const HandleValueArray &list, MutableHandleValue result);
     JSObject *join(HandleObject prototype, std::u16string name);
     void leave(BroadcastMember &member);
     void listen(BroadcastMember &member, bool is_listened);
@@ -191,6 +182,8 @@ class Agent {
     const Clock::time_point began = Clock::now();
     varukoni::Port broadcasts_to;
     JS::PersistentRootedObject global, hooks, port_prototype, event_prototype, message_hook;
+    // Objects of the prototypes whose private fields are there.
+    JS::PersistentRootedObject stamped_port, stamped_event;
 
   private:
     struct Worker {
