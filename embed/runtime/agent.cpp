@@ -92,8 +92,7 @@ void Agent::end() {
     }
     std::lock_guard<std::mutex> held(program.broadcasts.lock);
     broadcasts_to = varukoni::Port();
-    for (auto *kept : {&global, &hooks, &port_prototype, &event_prototype, &message_hook,
-                       &stamped_port, &stamped_event})
+    for (auto *kept : {&global, &hooks, &port_prototype, &event_prototype, &message_hook})
         kept->reset();
 }
 
@@ -103,11 +102,9 @@ Agent::~Agent() {
     if (start_of.creator)
         start_of.creator->put({Notice::Kind::worker_ended, start_of.id_at_creator});
 }
-
 bool Agent::call(const char *hook, const HandleValueArray &words, MutableHandleValue result) {
     return !inbox->is_ending() && JS::Call(context, hooks, hook, words, result);
 }
-
 void Agent::call(const char *hook, JSObject *object, HandleValue more) {
     RootedValueArray<2> words(context);
     RootedValue result(context);
@@ -116,7 +113,6 @@ void Agent::call(const char *hook, JSObject *object, HandleValue more) {
     if (!call(hook, words, &result)) report_pending();
     checkpoint();
 }
-
 void Agent::report_pending() {
     RootedValueArray<1> words(context);
     RootedValue result(context);
@@ -124,7 +120,6 @@ void Agent::report_pending() {
     JS_ClearPendingException(context);
     if (!call("report", words, &result)) JS_ClearPendingException(context);
 }
-
 void Agent::checkpoint() {
     if (!inbox->is_ending()) js::RunJobs(context);
     if (has_rejections && !inbox->is_ending()) {
@@ -144,12 +139,10 @@ void Agent::run_tasks() {
         inbox->sleep(timer);
     }
 }
-
 bool Agent::has_work() const {
     return timer || !workers.empty() || kept_ports > 0 || listened_channels > 0
            || (is_scope_listened && inside->port.is_open());
 }
-
 void Agent::take_notices() {
     inbox->take(notices);
     for (const auto &[kind, id] : notices) {

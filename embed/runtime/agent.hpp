@@ -8,8 +8,6 @@
 
 #include <js/Array.h>
 #include <js/CompilationAndEvaluation.h>
-#include <js/ForOfIterator.h>
-#include <js/PropertyDescriptor.h>
 #include <js/SourceText.h>
 #include <js/StructuredClone.h>
 #include <jsfriendapi.h>
@@ -33,7 +31,6 @@ inline constexpr std::uint32_t slot_and_finalizer =
 template <typename Native> Native *behind(JSObject *object) {
     return JS::GetMaybePtrFromReservedSlot<Native>(object, native_slot);
 }
-
 template <typename Native> std::size_t moved(JSObject *object, JSObject *) {
     if (auto *native = behind<Native>(object)) native->object.unbarrieredSet(object);
     return 0;
@@ -60,22 +57,36 @@ struct ScriptPort {
 
     bool keeps_program() const { return is_started && kind <= Kind::worker; }
 };
-
 void set_port(JSObject *object, ScriptPort *port);
-// Closes a port if there is one, and all ports in what nobody read, without a call within a call.
+// Closes a port, and all ports in what nobody read, without a call within a call.
 void discard(ScriptPort *port);
-// What a message carries: the engine's clone of a value, and the ports that nobody has read.
+
+// What a message carries: a cloned value with its ports. A small clone with nothing but bytes is a
+// part of this, since a queue may have many.
 struct Parcel final : varukoni::Body {
-    JSStructuredCloneData data;
-    mutable std::vector<ScriptPort *> ports;
+    struct Rest {
+        JSStructuredCloneData data;
+        Ends ends;
+    };
+    std::unique_ptr<Rest> rest;
     // In a recording: its number on its line.
     std::uint64_t number = 0;
+    const std::size_t size;
     // It tells of an error that nobody has handled in the worker that posts it.
     bool is_error = false;
-    explicit Parcel(JSStructuredCloneData &&clone) : data(std::move(clone)) {}
+    static std::unique_ptr<Parcel> of(std::size_t size) {
+        return std::unique_ptr<Parcel>(new (size) Parcel(size));
+    }
+    char *bytes() { return reinterpret_cast<char *>(this + 1); }
+    const char *bytes() const { return reinterpret_cast<const char *>(this + 1); }
     std::string text() const;
-    Ends ends() const;
-    ~Parcel() { for (ScriptPort *port : ports) discard(port); }
+    Ends ends() const { return rest ? rest->ends : Ends(); }
+    void operator delete(void *at) { ::operator delete(at); }
+
+  private:
+    explicit Parcel(std::size_t given) : size(given) {}
+    static void *operator new(size_t own, size_t room) { return ::operator new(own + room); }
+    static void operator delete(void *at, std::size_t) { ::operator delete(at); }
 };
 
 // A message to the broadcast channels of one agent that have its name.
@@ -141,8 +152,7 @@ class Agent {
     // object where there is one. False where it throws, or the agent is ending.
     bool call(const char *hook, const HandleValueArray &words, MutableHandleValue result);
     void call(const char *hook, JSObject *object, HandleValue more = JS::UndefinedHandleValue);
-    // False, as an error is thrown: a TypeError, or else a DOMException.
-    bool throw_named(const char *name, const char *message);
+    void throw_named(const char *name, const char *message);
     void report_pending();
     void checkpoint();
     bool take_ends(std::uint32_t count, std::uint32_t &first);
@@ -158,12 +168,11 @@ class Agent {
     void start(ScriptPort &port);
     void close(ScriptPort &port);
 
-    std::unique_ptr<Parcel> write(HandleValue value, class Transfer *listed = nullptr);
+    std::unique_ptr<Parcel> write(HandleValue value, HandleValue list, class Transfer *ports);
     bool read(const Parcel &parcel, AgentLog *moves, MutableHandleValue value,
               MutableHandleValue ports);
-    bool list_of(HandleValue given, JS::MutableHandleValueVector list);
-    bool post(HandleObject object, HandleValue value, const HandleValueArray &list);
-    bool clone(HandleValue value, const HandleValueArray &list, MutableHandleValue result);
+    bool post(HandleObject object, HandleValue value, HandleValue list);
+    bool clone(HandleValue value, HandleValue list, MutableHandleValue result);
     JSObject *join(HandleObject prototype, std::u16string name);
     void leave(BroadcastMember &member);
     void listen(BroadcastMember &member, bool is_listened);
@@ -182,8 +191,6 @@ class Agent {
     const Clock::time_point began = Clock::now();
     varukoni::Port broadcasts_to;
     JS::PersistentRootedObject global, hooks, port_prototype, event_prototype, message_hook;
-    // Objects of the prototypes whose private fields are there.
-    JS::PersistentRootedObject stamped_port, stamped_event;
 
   private:
     struct Worker {

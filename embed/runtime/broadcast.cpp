@@ -9,7 +9,6 @@ void finalize_member(JS::GCContext *, JSObject *object) {
     if (member != nullptr) member->agent->leave(*member);
     delete member;
 }
-
 const JSClassOps member_ops = {nullptr, nullptr, nullptr, nullptr, nullptr, nullptr,
                                finalize_member, nullptr, nullptr, nullptr};
 const js::ClassExtension member_extension = {moved<BroadcastMember>};
@@ -41,7 +40,6 @@ bool BroadcastGroups::post(const BroadcastMember &from, std::shared_ptr<const Pa
     }
     return has_memory;
 }
-
 JSObject *Agent::join(HandleObject prototype, std::u16string group) {
     auto member = std::make_unique<BroadcastMember>();
     if (!take_ends(1, member->end)) return nullptr;
@@ -83,7 +81,6 @@ void Agent::listen(BroadcastMember &member, bool is_listened) {
     member.is_listened = is_listened && members.count(member.id) > 0;
     listened_channels += member.is_listened;
 }
-
 bool Agent::deliver_broadcast() {
     const Broadcast &message = *broadcast;
     if (next_target == message.targets.size()) {

@@ -15,18 +15,15 @@ void finalize_port(JS::GCContext *, JSObject *object) {
     port->agent->release(*port);
     discard(port);
 }
-
 const JSClassOps port_ops = {nullptr, nullptr, nullptr, nullptr, nullptr, nullptr, finalize_port,
                              nullptr, nullptr, nullptr};
 const js::ClassExtension port_extension = {moved<ScriptPort>};
 }  // namespace
-// With one slot the engine makes room for two in the object itself, and so for a private field.
-const JSClass platform_class = {"Object", JSCLASS_HAS_RESERVED_SLOTS(1), nullptr, nullptr, nullptr,
-                                nullptr};
+
+const JSClass platform_class = {"Object", 0, nullptr, nullptr, nullptr, nullptr};
 const JSClass port_class = {"MessagePort", slot_and_finalizer, &port_ops, nullptr, &port_extension,
                             nullptr};
 void discard(ScriptPort *port) {
-    if (port == nullptr) return;
     thread_local std::vector<ScriptPort *> *later = nullptr;
     if (later != nullptr) return later->push_back(port);
     std::vector<ScriptPort *> found = {port};
@@ -50,11 +47,8 @@ void set_port(JSObject *object, ScriptPort *port) {
 
 // A new object for a port, which is this agent's then. None where memory ran out.
 JSObject *Agent::object_of(ScriptPort *port, HandleObject prototype) {
-    RootedObject object(context, JS_NewObjectWithGivenProto(context, &port_class, prototype));
-    if (object && prototype == port_prototype
-        && !JS_InitializePropertiesFromCompatibleNativeObject(context, object, stamped_port))
-        return nullptr;
-    if (!object || port == nullptr) return object;
+    JSObject *object = JS_NewObjectWithGivenProto(context, &port_class, prototype);
+    if (object == nullptr || port == nullptr) return object;
     set_port(object, port);
     port->object = object;
     port->is_started = false;
@@ -66,7 +60,6 @@ bool Agent::take_ends(std::uint32_t count, std::uint32_t &first) {
     if (program.recorder.next(count, first)) return true;
     return throw_named("QuotaExceededError", "a recording has at most 65,536 ends"), false;
 }
-
 // A channel for a script. None where no end of a recording is left for it.
 Agent::Channel Agent::open_channel(ScriptPort::Kind left, ScriptPort::Kind right) {
     static std::atomic<std::uint64_t> channels{0};
@@ -78,7 +71,6 @@ Agent::Channel Agent::open_channel(ScriptPort::Kind left, ScriptPort::Kind right
     return {std::make_unique<ScriptPort>(left, std::move(one), number, first),
             std::make_unique<ScriptPort>(right, std::move(other), number, second)};
 }
-
 void Agent::adopt(ScriptPort &port) {
     port.agent = this;
     port.id = ++last_id;
@@ -96,14 +88,12 @@ void Agent::release(ScriptPort &port) {
     port.agent = nullptr;
     port.is_queued = false;
 }
-
 void Agent::start(ScriptPort &port) {
     if (port.is_started || !port.port.is_open()) return;
     port.is_started = true;
     kept_ports += port.keeps_program();
     queue(port);
 }
-
 void Agent::close(ScriptPort &port) {
     if (!port.port.is_open()) return;
     if (log != nullptr && port.kind != ScriptPort::Kind::road) log->closed(port.recorded.end);
@@ -112,7 +102,6 @@ void Agent::close(ScriptPort &port) {
     port.ahead.reset();
     port.port = varukoni::Port();
 }
-
 void Agent::queue(ScriptPort &port) {
     if (!port.is_queued) ready.push_back(port.id);
     port.is_queued = true;
@@ -177,8 +166,7 @@ void Agent::fire_message(HandleObject target, bool is_read, HandleValue data, Ha
     words[5].setBoolean(is_broadcast);
     RootedValue result(context);
     RootedValue hook(context, JS::ObjectValue(*message_hook));
-    if (!event || !JS_InitializePropertiesFromCompatibleNativeObject(context, event, stamped_event)
-        || !JS::Call(context, JS::UndefinedHandleValue, hook, words, &result))
+    if (!event || !JS::Call(context, JS::UndefinedHandleValue, hook, words, &result))
         report_pending();
     checkpoint();
 }
