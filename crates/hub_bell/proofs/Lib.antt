@@ -1,1 +1,2 @@
 pub mod Boards
+mod Looks

@@ -14,6 +14,7 @@ use hub_envelope::EndId;
 use std::alloc::Global;
 use std::marker::Model;
 use std::sync::{Arc, Wait};
+use std::thread;
 
 /// What wakes the loop that takes: whoever has posted at an enabled end rings it.
 #[derive(Drop)]
@@ -169,6 +170,10 @@ impl Outcome<bool, WakeView> for Wake {
     ghost then = { λ before _ _ after. after ≡ record before { wakes = before.wakes + 1 } };
 }
 
+/// How often a listener looks for a ring before it sleeps: for about as long as it takes to sleep
+/// and to be woken, where no other thread wants the processor.
+const LOOKS: usize = 32;
+
 /// A loop's end of its bells: it finds the ends that were rung, and sleeps until the next ring.
 ///
 /// ```rust
@@ -200,9 +205,16 @@ impl Model for Listener {
 
 impl Listener {
     ghost use Rattle.hub_bell.specs.declared.board.BoardStep.{BoardStep};
+    ghost use Rattle.hub_bell.specs.declared.board.BoardStep.TheVariants.{Looked};
     ghost use Rattle.hub_bell.specs.Ready.{names_word};
     ghost use Rattle.hub_bell.specs.Seats.{new_at};
-    ghost use Rattle.hub_bell.specs.Listening.{HasSlept, IsSwappedOut};
+    ghost use Rattle.hub_bell.specs.Listening.{
+      HasParked,
+      HasSlept,
+      IsSwappedOut,
+      looked,
+      some_found,
+    };
 
     /// A listener, and the first of its bells. No bit is set.
     pub fn open(alloc: Global) -> Result<(Listener, Bell), OutOfMemory>
@@ -263,10 +275,49 @@ impl Listener {
         words.swap::<TakeWord>(&mut self.seat, word, 0)
     }
 
+    /// Whether a word with set bits is named.
+    fn finds_names(&mut self) -> bool
+        ensures { (found : ℕ) × (result ≡ not (found == 0))
+            × (self.new ≡ record self.old {
+              at = record self.old.at {
+                steps = self.old.at.steps ++ Looked names_word found ∷ [];
+              };
+            }) }
+    {
+        self.board
+            .words
+            .shared
+            .load::<LoadWord>(&mut self.seat, NAMES)
+            != 0
+    }
+
+    /// Whether an end is rung soon: looks some times, and lets other threads run after each.
+    fn finds_a_ring_soon(&mut self) -> bool
+        ensures { (looks : List ℕ) × (result ≡ some_found looks)
+            × (self.new ≡ record self.old { at = looked self.old.at looks }) }
+    {
+        for _look in 0..LOOKS {
+            if self.finds_names() {
+                return true;
+            }
+            thread::yield_now();
+        }
+        false
+    }
+
     /// Sleeps until the loop is woken. It doesn't where an end was rung and its bit not taken out
-    /// yet, and it may return for no reason.
+    /// yet, or is rung before it has looked some times, and it may return for no reason.
     pub fn sleep<R: Wait>(&mut self, rt: &R)
         ensures { (self.new.board ≡ self.old.board) × HasSlept self.old.at self.new.at }
+    {
+        if !self.finds_a_ring_soon() {
+            self.park(rt);
+        }
+    }
+
+    /// Says that the listener sleeps, and sleeps unless an end was rung before that.
+    fn park<R: Wait>(&mut self, rt: &R)
+        ensures { (self.new.board ≡ self.old.board) × HasParked self.old.at self.new.at }
     {
         let words = &self.board.words.shared;
         words.store::<StoreWord>(&mut self.seat, ASLEEP, 1);

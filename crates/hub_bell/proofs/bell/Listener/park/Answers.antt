@@ -1,6 +1,6 @@
 use Rattle.std.proofs.Common.{rules}
 use Rattle.hub_bell.proofs.Boards.{may_look, may_store}
-use Rattle.hub_bell.proofs.bell.Listener.sleep.Goals as goal
+use Rattle.hub_bell.proofs.bell.Listener.park.Goals as goal
 
 pub store-requires : goal.store-requires
 store-requires g c = (search rules, search rules, may_store _ _ _ _ _)
