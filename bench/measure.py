@@ -178,10 +178,13 @@ class Job:
 
 @dataclasses.dataclass(frozen=True)
 class Run:
-    """What one run took: seconds, seconds of processors, bytes at most; and what it told."""
+    """What one run took: seconds, seconds of processors, of these in the kernel, bytes at most; and
+    what it told.
+    """
 
     seconds: float
     processor: float
+    kernel: float
     memory: float
     told: list
 
@@ -209,6 +212,10 @@ class Series:
     @property
     def processor(self):
         return Values([run.processor for run in self.runs], self.gap)
+
+    @property
+    def kernel(self):
+        return Values([run.kernel for run in self.runs], self.gap)
 
     @property
     def memory(self):
@@ -512,6 +519,7 @@ class Bench:
         return Run(
             told[0] / 1e6 if job.has_own_clock else wall,
             after.ru_utime + after.ru_stime - before.ru_utime - before.ru_stime,
+            after.ru_stime - before.ru_stime,
             1024 * int(memory.read_text()) if has_memory else 0,
             told,
         )

@@ -1,8 +1,9 @@
-"""Times runs of scripts: two windows that write to each other, and 16 windows in a ring.
+"""Times runs of scripts: two windows that write to each other, and 4 and 16 windows in a ring.
 
 Each of the two windows enables its queue, sends 2,000 messages to that of the other one and waits
 for 2,000: 50 runs, so 100,000 messages each way. A script has at most 4,096 lines. Each of the 16
 windows sends a message to the next one and waits for one, 127 times: 50 runs, so 101,600 messages.
+Each of the 4 does so 508 times, which is as many messages.
 The body of a message has seven bytes. What is timed is `run_agents`: for each run the agents and
 their threads are made, and the threads have ended. The script is read once, before. The same runs
 without messages tell what of that is the making and the ending.
@@ -27,7 +28,11 @@ from measure import rate, ratio, scaled
 BUILDS = {"run": ["hub_envelope", "hub_run", "hub_script", "hub_trace"]}
 RUNS = 50
 # How many agents there are, how many rounds, and how many messages one sends in a round.
-SHAPES = {"two agents": (2, 1, 2000), "16 agents in a ring": (16, 127, 1)}
+SHAPES = {
+    "two agents": (2, 1, 2000),
+    "4 agents in a ring": (4, 508, 1),
+    "16 agents in a ring": (16, 127, 1),
+}
 PEERS = [(kind, keeping) for kind in ("values", "texts") for keeping in ("logged", "bare")]
 
 
@@ -60,5 +65,7 @@ def report(bench, name, agents, rounds, messages, runs):
     bench.shows(f"{name}, logging, of the time", share, "%")
     share = ratio(logging, own.processor, scale=100)
     bench.shows(f"{name}, logging, of processor time", share, "%")
+    share = ratio(own.kernel, own.processor, scale=100)
+    bench.shows(f"{name}, the kernel, of processor time", share, "%")
     empty = scaled(runs["empty"].seconds, 1e6 / RUNS)
     bench.shows(f"{name}, a run without messages", empty, "us")
