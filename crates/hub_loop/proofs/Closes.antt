@@ -1,34 +1,35 @@
 -- What is kept of an end that was closed.
-use Rattle.std.proofs.Common.{◌≡◌, ◌∙◌, ℕ, ◌+◌, cond, Bool, List, [], ◌∷◌, ◌++◌, Option, Some, None, ap, append-nil, subst, sym}
-use Rattle.std.specs.List.{count_by}
+use Rattle.std.proofs.Common.{◌≡◌, ◌∙◌, List, [], ◌∷◌, ◌++◌, Option, Some, None, ap, append-nil, subst, sym}
 use Rattle.std.specs.Prelude.{IfNone, option_to_list}
+use Rattle.std.proofs.lemmas.List.{map_push}
 use Rattle.hub_ports.specs.Seats.{PortSeat}
 use Rattle.hub_queue.specs.Graves.{GraveSeat}
 use Rattle.hub_queue.specs.Standing.{StandSeat}
 use Rattle.hub_loop.specs.Closing.{IsOpenClosed}
-use Rattle.hub_loop.specs.Ending.{is_grave, is_open}
-use Rattle.hub_loop.specs.Noticing.{port_in}
+use Rattle.hub_loop.specs.Ending.{grave_ends, open_ends}
+use Rattle.hub_loop.specs.Noticing.{ports_in}
 use Rattle.hub_loop.specs.Telling.{IsTold, NoticesMore}
 use Rattle.hub_loop.specs.declared.closed.ClosedEnd.{ClosedEnd}
 use Rattle.hub_loop.specs.declared.closed.ClosedPort.{ClosedPort}
+use Rattle.hub_loop.specs.declared.ending.StillOpen.{StillOpen}
+use Rattle.hub_loop.specs.declared.ending.StillOpen.TheVariants as still
 use Rattle.hub_loop.specs.declared.held.Held.TheVariants.{Port, Client, Worker, Member, Line}
-use Rattle.hub_loop.specs.States.{OpenState, open_held, open_arrived}
-use Rattle.hub_loop.proofs.Counted.{count-push}
 use Rattle.hub_loop.proofs.Notices.{notices-none, notices-one}
 
 -- the grave has the number of the end
-grave-of : (o : OpenState) (c : ClosedEnd) (e : ℕ) → IsOpenClosed o c → is_grave e c.grave ≡ is_open e o
-grave-of (open_held (Port p)) c e closed = ap (is_grave e) closed.0
-grave-of (open_held (Client t)) c e closed = ap (is_grave e) closed.0
-grave-of (open_held (Worker t)) c e closed = ap (is_grave e) closed.0
-grave-of (open_held (Member m)) c e closed = ap (is_grave e) closed.0
-grave-of (open_held (Line s)) c e closed = absurd closed
-grave-of (open_arrived p) c e closed = ap (is_grave e) closed.0
+grave-of : (o : StillOpen) (c : ClosedEnd) → IsOpenClosed o c → c.grave.end ∷ [] ≡ open_ends (o ∷ [])
+grave-of (still.Held (Port p)) c closed = ap (λ (g : GraveSeat). g.end ∷ []) closed.0
+grave-of (still.Held (Client t)) c closed = ap (λ (g : GraveSeat). g.end ∷ []) closed.0
+grave-of (still.Held (Worker t)) c closed = ap (λ (g : GraveSeat). g.end ∷ []) closed.0
+grave-of (still.Held (Member m)) c closed = ap (λ (g : GraveSeat). g.end ∷ []) closed.0
+grave-of (still.Held (Line s)) c closed = absurd closed
+grave-of (still.Queue q) c closed = ap (λ (g : GraveSeat). g.end ∷ []) closed.0
+grave-of (still.Arrived p) c closed = ap (λ (g : GraveSeat). g.end ∷ []) closed.0
 
--- one grave more of that number
-pub buries : (o : OpenState) (c : ClosedEnd) (e : ℕ) (before after : List GraveSeat) → IsOpenClosed o c → after ≡ before ++ c.grave ∷ [] → count_by (is_grave e) after ≡ count_by (is_grave e) before + cond (is_open e o) 1 0
-buries o c e before after closed more =
-    ap (count_by (is_grave e)) more ∙ count-push (is_grave e) before c.grave ∙ ap (λ (b : Bool). count_by (is_grave e) before + cond b 1 0) (grave-of o c e closed)
+-- one grave more
+pub buries : (o : StillOpen) (c : ClosedEnd) (before after : List GraveSeat) → IsOpenClosed o c → after ≡ before ++ c.grave ∷ [] → grave_ends after ≡ grave_ends before ++ open_ends (o ∷ [])
+buries o c before after closed more =
+    ap grave_ends more ∙ map_push (λ (g : GraveSeat). g.end) before c.grave ∙ ap (λ ns. grave_ends before ++ ns) (grave-of o c closed)
 
 -- of a port its notice is told
 port-closed : (p : PortSeat) (port : Option ClosedPort) (before after : List ClosedPort) → ((told : ClosedPort) × (port ≡ Some told) × IsTold p told) → after ≡ before ++ option_to_list port → NoticesMore (p ∷ []) before after
@@ -38,17 +39,21 @@ port-closed p port before after (told, is, closed) more = notices-one p told bef
 alone-closed : (port : Option ClosedPort) (before after : List ClosedPort) → port ≡ None → after ≡ before ++ option_to_list port → NoticesMore [] before after
 alone-closed port before after none more = notices-none before after (more ∙ ap (λ o. before ++ option_to_list o) none ∙ append-nil before)
 
-pub notices-closed : (o : OpenState) (c : ClosedEnd) (before after : List ClosedPort) → IsOpenClosed o c → after ≡ before ++ option_to_list c.port → NoticesMore (port_in o) before after
-notices-closed (open_held (Port p)) c before after closed more = port-closed p c.port before after closed.1 more
-notices-closed (open_held (Client t)) c before after closed more = alone-closed c.port before after closed.1 more
-notices-closed (open_held (Worker t)) c before after closed more = alone-closed c.port before after closed.1 more
-notices-closed (open_held (Member m)) c before after closed more = alone-closed c.port before after closed.1 more
-notices-closed (open_held (Line s)) c before after closed more = absurd closed
-notices-closed (open_arrived p) c before after closed more = port-closed p c.port before after closed.1 more
+pub notices-closed : (o : StillOpen) (c : ClosedEnd) (before after : List ClosedPort) → IsOpenClosed o c → after ≡ before ++ option_to_list c.port → NoticesMore (ports_in (o ∷ [])) before after
+notices-closed (still.Held (Port p)) c before after closed more = port-closed p c.port before after closed.1 more
+notices-closed (still.Held (Client t)) c before after closed more = alone-closed c.port before after closed.1 more
+notices-closed (still.Held (Worker t)) c before after closed more = alone-closed c.port before after closed.1 more
+notices-closed (still.Held (Member m)) c before after closed more = alone-closed c.port before after closed.1 more
+notices-closed (still.Held (Line s)) c before after closed more = absurd closed
+notices-closed (still.Queue q) c before after closed more = alone-closed c.port before after closed.1 more
+notices-closed (still.Arrived p) c before after closed more = port-closed p c.port before after closed.1 more
 
 -- the line that comes back was closed to nothing
-pub notices-line : (o : OpenState) (s : StandSeat) (before after : List ClosedPort) → o ≡ open_held (Line s) → after ≡ before → NoticesMore (port_in o) before after
-notices-line o s before after is same = subst (λ x. NoticesMore (port_in x) before after) (sym is) (notices-none before after same)
+pub lines-stay : (o : StillOpen) (s : StandSeat) (before : List GraveSeat) → o ≡ still.Held (Line s) → grave_ends before ≡ grave_ends before ++ open_ends (o ∷ [])
+lines-stay o s before is = subst (λ x. grave_ends before ≡ grave_ends before ++ open_ends (x ∷ [])) (sym is) (sym (append-nil (grave_ends before)))
+
+pub notices-line : (o : StillOpen) (s : StandSeat) (before after : List ClosedPort) → o ≡ still.Held (Line s) → after ≡ before → NoticesMore (ports_in (o ∷ [])) before after
+notices-line o s before after is same = subst (λ x. NoticesMore (ports_in (x ∷ [])) before after) (sym is) (notices-none before after same)
 
 pub if-none : {A : Type 0} {P : Type 0} (r : Option A) → P → IfNone r P
 if-none None p = p

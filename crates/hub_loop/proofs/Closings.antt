@@ -1,59 +1,53 @@
--- What becomes of the ends and the ports of a loop while they are closed.
-use Rattle.std.proofs.Common.{◌≡◌, ℕ, ◌+◌, ◌++◌, Bool, List, [], ap, arith, Option}
-use Rattle.std.specs.List.{count_by}
-use Rattle.std.specs.List.Sorted.{IsPermutation}
-use Rattle.slab.specs.Slab.{Slab}
-use Rattle.hub_clients.specs.declared.handed.HandedQueue.{HandedQueue}
-use Rattle.hub_ports.specs.Seats.{PortSeat}
-use Rattle.hub_queue.specs.Graves.{GraveSeat}
-use Rattle.hub_loop.specs.declared.held.Held.{Held}
-use Rattle.hub_loop.specs.Ending.{is_grave, is_open, ends_in, passing_in}
-use Rattle.hub_loop.specs.Noticing.{is_port_passing, ports_back, ports_in}
-use Rattle.hub_loop.specs.States.{DeliveryState, OpenState}
-use Rattle.hub_loop.proofs.Counted.{count-permuted}
-use Rattle.hub_loop.proofs.Notices.{count-closes, holds-open, ports-open}
+-- What a loop has is taken out and closed.
+use Rattle.std.proofs.Common.{◌≡◌, ℕ, ◌+◌, ◌<◌, ◌≤◌, cond, List, [], ◌∷◌, ◌++◌, map, length, get_or, sym, ap, ◌∙◌, subst, append_assoc, append-nil, refl, arith, Option, Some, None}
+use Rattle.std.specs.List.{count_by, filter_map}
+use Rattle.std.specs.List.Sorted.{IsNonDecreasing, IsNonDecreasingBy}
+use Rattle.std.specs.Prelude.{is_some}
+use Rattle.std.proofs.lemmas.List.{get_or-map, length-map, map-append}
+use Rattle.std.proofs.lemmas.List.Elements.{filter_map-append}
+use Rattle.std.proofs.lemmas.List.Sums.{sum_by-cons}
+use Rattle.slab.specs.Slab.{Slab, entries, entries_from, slab_len}
+use Rattle.hub_queue.specs.Taking.{TakerSeat}
+use Rattle.hub_loop.specs.declared.ending.StillOpen.{StillOpen}
+use Rattle.hub_loop.specs.Ending.{closing_ends, grave_ends, open_ends, open_seat, swept_ends}
+use Rattle.hub_loop.specs.States.{ClosingState}
 
--- each end was taken out
-pub ends-taken : (old new : Slab Held) (queues fewer : List HandedQueue) (kept keeps : Option DeliveryState) (before after : List OpenState) (graves : List GraveSeat) (e : ℕ) → passing_in new fewer keeps after (is_open e) ≡ passing_in old queues kept before (is_open e) → ends_in new fewer keeps after graves e ≡ ends_in old queues kept before graves e
-ends-taken old new queues fewer kept keeps before after graves e moved =
-    let was = holds-open old queues kept before graves e in
-    let is = holds-open new fewer keeps after graves e in
-    omega (arith, was, is, moved)
+entries-from : {X : Type 0} (key : ℕ) (slots : List (Option X)) → length (entries_from key slots) ≡ count_by is_some slots
+entries-from key [] = refl
+entries-from key (None ∷ slots) =
+    let rest = entries-from (key + 1) slots in
+    let split = sum_by-cons (λ (o : Option _). cond {A = ℕ} (is_some o) 1 0) None slots in
+    omega (arith, rest, split)
+entries-from key (Some x ∷ slots) =
+    let rest = entries-from (key + 1) slots in
+    let split = sum_by-cons (λ (o : Option _). cond {A = ℕ} (is_some o) 1 0) (Some x) slots in
+    omega (arith, rest, split)
 
--- each end that was taken out was closed, or is still among those
-pub ends-closed : (held : Slab Held) (queues : List HandedQueue) (kept : Option DeliveryState) (opened sorted reversed left : List OpenState) (before after : List GraveSeat) (e : ℕ) → IsPermutation opened sorted → IsPermutation sorted reversed → count_by (is_grave e) after + count_by (is_open e) left ≡ count_by (is_grave e) before + count_by (is_open e) reversed → ends_in held queues kept left after e ≡ ends_in held queues kept opened before e
-ends-closed held queues kept opened sorted reversed left before after e sort reverse closed =
-    let was = holds-open held queues kept opened before e in
-    let is = holds-open held queues kept left after e in
-    let sorts = count-permuted (is_open e) opened sorted sort in
-    let reverses = count-permuted (is_open e) sorted reversed reverse in
-    omega (arith, was, is, sorts, reverses, closed)
+-- so many are held
+pub entries-held : {X : Type 0} (slots : Slab X) → length (entries slots) ≡ slab_len slots
+entries-held slots = entries-from 0 slots.slots
 
--- each port was taken out
-pub ports-taken : (old new : Slab Held) (queues fewer : List HandedQueue) (kept keeps : Option DeliveryState) (before after : List OpenState) (passes : PortSeat → Bool) → passing_in new fewer keeps after (is_port_passing passes) ≡ passing_in old queues kept before (is_port_passing passes) → ports_in new keeps after passes ≡ ports_in old kept before passes
-ports-taken old new queues fewer kept keeps before after passes moved =
-    let was = ports-open old queues kept before passes in
-    let is = ports-open new fewer keeps after passes in
-    omega (arith, was, is, moved)
+-- one more of the list was taken
+pub next-left : {X : Type 0} (all done rest after : List X) (x : X) → all ≡ done ++ rest → rest ≡ x ∷ after → all ≡ (done ++ x ∷ []) ++ after
+next-left all done rest after x split next = split ∙ ap (λ xs. done ++ xs) next ∙ sym (append_assoc done (x ∷ []) after)
 
--- each port that was taken out was closed, or is still among those
-pub ports-closed : (held : Slab Held) (kept : Option DeliveryState) (opened sorted reversed left : List OpenState) (passes : PortSeat → Bool) (closed : List PortSeat) → IsPermutation opened sorted → IsPermutation sorted reversed → ports_back reversed ≡ closed ++ ports_back left → count_by passes closed + ports_in held kept left passes ≡ ports_in held kept opened passes
-ports-closed held kept opened sorted reversed left passes closed sort reverse is =
-    let sorts = count-permuted (is_port_passing passes) opened sorted sort in
-    let reverses = count-permuted (is_port_passing passes) sorted reversed reverse in
-    let closes = count-closes passes reversed left closed is in
-    omega (arith, sorts, reverses, closes)
+-- one more was closed
+pub ends-more : (all : List StillOpen) (o : StillOpen) (before between after : List ℕ) → between ≡ before ++ open_ends all → after ≡ between ++ open_ends (o ∷ []) → after ≡ before ++ open_ends (all ++ o ∷ [])
+ends-more all o before between after first more =
+    more
+    ∙ ap (λ ns. ns ++ open_ends (o ∷ [])) first
+    ∙ append_assoc before (open_ends all) (open_ends (o ∷ []))
+    ∙ ap (λ ns. before ++ ns) (sym (ap (map (λ (t : TakerSeat). t.end)) (filter_map-append open_seat all (o ∷ [])) ∙ map-append (λ (t : TakerSeat). t.end) (filter_map open_seat all) (filter_map open_seat (o ∷ []))))
 
--- where all was taken out and closed no port is left
-pub no-ports-left : (held : Slab Held) (queues : List HandedQueue) (kept : Option DeliveryState) (opened left : List OpenState) (passes : PortSeat → Bool) → count_by (is_port_passing passes) opened ≡ passing_in held queues kept opened (is_port_passing passes) → left ≡ [] → ports_in held kept left passes ≡ 0
-no-ports-left held queues kept opened left passes out none =
-    let is = ports-open held queues kept left passes in
-    let gone = ap (count_by (is_port_passing passes)) none in
-    omega (arith, is, out, gone)
+-- the numbers of what rises by its number rise
+pub rises : {X : Type 0} (n : X → ℕ) (xs : List X) → IsNonDecreasingBy n xs → IsNonDecreasing (map n xs)
+rises n [] up i j d le less = absurd (omega (arith, less))
+rises n (x ∷ xs) up i j d le less =
+    let inside : j < length (x ∷ xs) = subst (λ k. j < k) (length-map (x ∷ xs) n) less in
+    let first : i < length (x ∷ xs) = omega (arith, le, inside) in
+    subst (λ k. k ≤ get_or (map n (x ∷ xs)) j d) (sym (get_or-map n (x ∷ xs) i x d first))
+    (subst (λ k. n (get_or (x ∷ xs) i x) ≤ k) (sym (get_or-map n (x ∷ xs) j x d inside)) (up i j x le inside))
 
--- nor an end without a grave
-pub graves-alone : (held : Slab Held) (queues : List HandedQueue) (kept : Option DeliveryState) (opened left : List OpenState) (graves : List GraveSeat) (e : ℕ) → count_by (is_open e) opened ≡ passing_in held queues kept opened (is_open e) → left ≡ [] → count_by (is_grave e) graves ≡ ends_in held queues kept left graves e
-graves-alone held queues kept opened left graves e out none =
-    let is = holds-open held queues kept left graves e in
-    let gone = ap (count_by (is_open e)) none in
-    omega (arith, is, out, gone)
+-- all was swept
+pub all-swept : (c : ClosingState) → c.graves ≡ [] → closing_ends c ≡ swept_ends c.swept
+all-swept c none = ap (λ graves. swept_ends c.swept ++ grave_ends graves) none ∙ append-nil (swept_ends c.swept)

@@ -2,7 +2,6 @@ mod Adopts
 mod Asks
 mod Closes
 mod Closings
-mod Counted
 mod Delivers
 mod Looks
 mod Marks

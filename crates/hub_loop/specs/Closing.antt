@@ -1,21 +1,24 @@
 -- How an end that a loop holds is closed.
-use Rattle.std.specs.Prelude.{◌≡◌, List, filter, not, Option, Some, None}
+use Rattle.std.specs.Prelude.{◌≡◌, ℕ, ◌+◌, ◌≤◌, List, filter, not, Option, Some, None, vec_len, vec_capacity}
 use Rattle.std.specs.Option.{option_map}
 use Rattle.slab.specs.Slab.{Slab}
 use Rattle.hub_envelope.specs.declared.ids.EndId.{EndId}
 use Rattle.hub_broadcast.specs.Destinations.{is_of_end}
 use Rattle.hub_broadcast.specs.Members.{SubscriptionSeat}
+use Rattle.hub_clients.specs.Handing.{taker_of}
 use Rattle.hub_ports.specs.Seats.{PortSeat}
 use Rattle.hub_queue.specs.Ending.{IsClosed}
 use Rattle.hub_queue.specs.Taking.{TakerSeat}
 use Rattle.hub_loop.specs.declared.closed.ClosedEnd.{ClosedEnd}
 use Rattle.hub_loop.specs.declared.closed.ClosedPort.{ClosedPort}
+use Rattle.hub_loop.specs.declared.ending.Closed.{Closed}
+use Rattle.hub_loop.specs.declared.ending.StillOpen.{StillOpen}
+use Rattle.hub_loop.specs.declared.ending.StillOpen.TheVariants as still
 use Rattle.hub_loop.specs.declared.held.Held.{Held}
 use Rattle.hub_loop.specs.declared.held.Held.TheVariants.{Port, Client, Worker, Member, Line}
 use Rattle.hub_loop.specs.Adopting.{HoldsMore}
 use Rattle.hub_loop.specs.Holding.{end_held}
 use Rattle.hub_loop.specs.Telling.{IsTold}
-use Rattle.hub_loop.specs.States.{OpenState, open_held, open_arrived}
 
 -- the end was closed, and nothing is told of a port
 abbrev pub IsClosedAlone : TakerSeat → ClosedEnd → Type 0
@@ -33,9 +36,15 @@ IsEndClosed (Worker t) c = IsClosedAlone t c
 IsEndClosed (Member m) c = IsClosedAlone m.taker c
 IsEndClosed (Line s) c = ⊥
 
-abbrev pub IsOpenClosed : OpenState → ClosedEnd → Type 0
-IsOpenClosed (open_held h) c = IsEndClosed h c
-IsOpenClosed (open_arrived p) c = IsPortClosed p c
+abbrev pub IsOpenClosed : StillOpen → ClosedEnd → Type 0
+IsOpenClosed (still.Held h) c = IsEndClosed h c
+IsOpenClosed (still.Queue q) c = IsClosedAlone (taker_of q) c
+IsOpenClosed (still.Arrived p) c = IsPortClosed p c
+
+-- there is room for so many more graves, notices and lines
+abbrev pub HasRoom : Closed → ℕ → Type 0
+HasRoom c more =
+    (vec_len c.graves + more ≤ vec_capacity c.graves) × (vec_len c.noticed + more ≤ vec_capacity c.noticed) × (vec_len c.lines + more ≤ vec_capacity c.lines)
 
 -- the roster that is shown once this was closed: a member has left it
 abbrev pub left_by : Held → Option (List SubscriptionSeat) → Option (List SubscriptionSeat)

@@ -9,8 +9,6 @@ use Rattle.hub_ports.specs.Seats.{PortSeat}
 use Rattle.hub_queue.specs.Graves.{GraveSeat, SweptSeat}
 use Rattle.hub_queue.specs.Standing.{StandSeat}
 use Rattle.hub_loop.specs.declared.closed.ClosedPort.{ClosedPort}
-use Rattle.hub_loop.specs.declared.ending.Opened.{Opened}
-use Rattle.hub_loop.specs.declared.ending.Opened.TheVariants as opened
 use Rattle.hub_loop.specs.declared.held.Held.{Held}
 
 -- The ports that were closed because they could not be adopted, or at the end: what is to be swept of them, what is told of each, and the lines that were held beside them.
@@ -43,12 +41,3 @@ pub record ClosingState : Type 0 where
   pub swept : List SweptSeat
   pub graves : List GraveSeat
   pub noticed : List ClosedPort
-
--- An end that was taken out to be closed: one that was held, or a port that was received and not adopted.
-pub data OpenState : Type 0 where
-  open_held : Held → OpenState
-  open_arrived : PortSeat → OpenState
-
-abbrev pub open_of : Opened → OpenState
-open_of (opened.Held h) = open_held h
-open_of (opened.Arrived p) = open_arrived p

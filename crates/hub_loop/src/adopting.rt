@@ -3,14 +3,10 @@
 ghost use Rattle.std.specs.Prelude.{
   ◌≡◌,
   Err,
-  ◌≤◌,
-  ◌+◌,
   IfOk,
   OnOk,
   IfErr,
   OnErr,
-  vec_len,
-  vec_capacity,
 };
 ghost use Rattle.slab.specs.Slab.{HasRoomFor, SameValues};
 ghost use Rattle.hub_clients.specs.Handing.{taker_of};
@@ -25,6 +21,7 @@ ghost use Rattle.hub_loop.specs.Adopting.{
   SameClosed,
   SameStored,
 };
+ghost use Rattle.hub_loop.specs.Closing.{HasRoom};
 ghost use Rattle.hub_loop.specs.Marking.{AreMarked};
 ghost use Rattle.hub_ready.specs.Marking.{HasBit};
 
@@ -100,10 +97,7 @@ impl Holding {
     fn prepare(&mut self, end: EndId) -> Result<Bell, OutOfMemory>
         ensures held { OnOk result (HasRoomFor self.new.ends.held 1) }
         ensures bit { OnOk result (HasBit self.new.ends.ready.marks self.new.ends.held.vacant_key) }
-        ensures graves { OnOk result
-            (vec_len self.new.closed.graves + 1 ≤ vec_capacity self.new.closed.graves) }
-        ensures noticed { OnOk result
-            (vec_len self.new.closed.noticed + 1 ≤ vec_capacity self.new.closed.noticed) }
+        ensures room { OnOk result (HasRoom self.new.closed 1) }
         ensures same { SameValues self.old.ends.held self.new.ends.held }
         ensures marked { AreMarked self.old.ends.held self.old.ends.ready
             self.new.ends.held self.new.ends.ready }

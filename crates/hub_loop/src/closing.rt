@@ -1,8 +1,8 @@
 //! How a loop ends: what it holds is closed and swept, and then each port that is named there.
 
-ghost use Rattle.std.specs.Prelude.{◌≡◌, ◌++◌, ℕ, [], count_by, OnOk};
-ghost use Rattle.std.specs.List.Sorted.{IsNonDecreasing};
-ghost use Rattle.hub_loop.specs.Ending.{is_grave, grave_ends, swept_ends, closing_ends};
+ghost use Rattle.std.specs.Prelude.{◌≡◌, ◌++◌, [], OnOk};
+ghost use Rattle.std.specs.List.Sorted.{IsNonDecreasing, IsPermutation};
+ghost use Rattle.hub_loop.specs.Ending.{grave_ends, swept_ends, closing_ends};
 ghost use Rattle.hub_loop.specs.Noticing.{NamedBehind};
 
 use crate::closed::ClosedPort;
@@ -177,8 +177,7 @@ impl Shutdown {
     pub(crate) fn new(alloc: Global, closed: Closed) -> Shutdown
         ensures swept { result.swept ≡ [] }
         ensures sorted { IsNonDecreasing (grave_ends result.graves) }
-        ensures same { (e : ℕ) → count_by (is_grave e) result.graves
-            ≡ count_by (is_grave e) closed.graves.items }
+        ensures same { IsPermutation (grave_ends closed.graves.items) (grave_ends result.graves) }
         ensures noticed { result.noticed ≡ closed.noticed.items }
     {
         let Closed {

@@ -1,17 +1,11 @@
 //! The end of a loop.
 
-ghost use Rattle.std.specs.Prelude.{◌≡◌, OnOk, IfOk, IfErr, OnErr, Bool, count_by};
+ghost use Rattle.std.specs.Prelude.{◌≡◌, IfOk, IfErr, OnErr};
 ghost use Rattle.hub_loop.specs.Ending.{closing_ends, swept_ends};
-ghost use Rattle.hub_loop.specs.Looping.{
-  passing,
-  HasEnded,
-  HasPaused,
-  SameButOpened,
-};
-ghost use Rattle.hub_loop.specs.States.{OpenState};
+ghost use Rattle.hub_loop.specs.Looping.{HasEnded, HasPaused};
 
 use crate::closing::{Ended, Shutdown};
-use crate::ending::{Closed, leave_all, take_found, take_held, take_queues};
+use crate::ending::{Closed, leave_all};
 use crate::error::LoopError;
 use crate::event_loop::EventLoop;
 use crate::handler::{Checkpoint, Handler};
@@ -33,7 +27,8 @@ impl<H: Handler + Drop, C: Checkpoint + Drop> EventLoop<H, C> {
     /// It answers what was swept, first the ends that the loop held, in rising order, and then the
     /// ports that were named; and of each port that was closed, in the order of closing, the number
     /// and what became of its notice, those that a turn has closed first. A line that the directory
-    /// refuses is dropped. After `OutOfMemory` the next `end` goes on.
+    /// refuses is dropped. All the room that can be counted is made first: after `OutOfMemory` the
+    /// loop is as it was, or only the sweeping is left, and the next `end` goes on.
     pub fn end<L: Lends<Roster>, R: Wait>(
         mut self,
         rt: &R,
@@ -61,22 +56,8 @@ impl<H: Handler + Drop, C: Checkpoint + Drop> EventLoop<H, C> {
         }
     }
 
-    /// Takes out what is to be closed: what is held, the queues that were fetched, and the ports
-    /// that were found for a kept delivery.
-    fn take_open(&mut self) -> Result<(), OutOfMemory>
-        ensures moved { (passes : OpenState → Bool) →
-            passing self.new passes ≡ passing self.old passes }
-        ensures all { OnOk result ((passes : OpenState → Bool) →
-            count_by passes self.new.opened ≡ passing self.new passes) }
-        ensures rest { SameButOpened self.old self.new }
-    {
-        take_held(&mut self.holding.ends.held, &mut self.opened)?;
-        take_queues(&mut self.fetched, &mut self.opened)?;
-        take_found(&mut self.kept, &mut self.opened)
-    }
-
     /// Closes what the loop has, in rising order of the numbers, or takes up how far an earlier
-    /// call has come.
+    /// call has come. After an error nothing has changed.
     fn begin_closing<L: Lends<Roster>, R: Wait>(
         &mut self,
         rt: &R,
@@ -85,16 +66,17 @@ impl<H: Handler + Drop, C: Checkpoint + Drop> EventLoop<H, C> {
     ) -> Result<Shutdown, OutOfMemory>
         ensures ok { IfOk result (λ closing.
             HasEnded self.old (closing_ends closing) closing.noticed) }
-        ensures err { OnErr result (HasPaused self.old self.new) }
+        ensures err { OnErr result (self.new ≡ self.old) }
     {
         if let Some(closing) = self.closing.take() {
             return Ok(closing);
         }
-        self.take_open()?;
-        self.opened.sort_unstable_by_key(|open| open.end().0);
-        self.opened.reverse();
-        leave_all(rt, roster, self.opened.as_slice());
-        self.holding.closed.close_all(rt, hub, &mut self.opened)?;
+        let mut opened = self
+            .holding
+            .take_open(self.alloc, &mut self.fetched, &mut self.kept)?;
+        opened.sort_unstable_by_key(|open| open.end().0);
+        leave_all(rt, roster, opened.as_slice());
+        self.holding.closed.close_all(rt, hub, opened);
         let closed = replace(&mut self.holding.closed, Closed::new(self.alloc));
         Ok(Shutdown::new(self.alloc, closed))
     }

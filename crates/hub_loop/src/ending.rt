@@ -1,44 +1,41 @@
-//! How all that a loop holds is closed, in rising order of the numbers.
+//! How all that a loop holds is taken out and closed, in rising order of the numbers.
 
-ghost use Rattle.slab.specs.Slab.{get};
+ghost use Rattle.slab.specs.Slab.{entries};
 ghost use Rattle.std.specs.Prelude.{
   ◌≡◌,
-  ◌≢◌,
-  ◌⊎◌,
   ℕ,
-  Bool,
-  None,
   length,
+  map,
   ◌+◌,
   ◌<◌,
   ◌≤◌,
   [],
   ◌∷◌,
   ◌++◌,
-  cond,
-  count_by,
   IfErr,
   IfOk,
+  OnErr,
   OnOk,
   vec_len,
   vec_capacity,
 };
-ghost use Rattle.hub_loop.specs.Closing.{IsOpenClosed};
-ghost use Rattle.hub_loop.specs.Ending.{
-  is_grave,
-  is_open,
-  found_of,
-  arrived_passes,
-  queue_passes,
-  slot_passes,
+ghost use Rattle.std.specs.VecDeque.{deque_len};
+ghost use Rattle.hub_loop.specs.Adopting.{closed_of};
+ghost use Rattle.hub_loop.specs.Closing.{HasRoom, IsOpenClosed};
+ghost use Rattle.hub_loop.specs.Ending.{found_of, grave_ends, open_ends, open_number, still_open};
+ghost use Rattle.hub_loop.specs.Looping.{holding_of};
+ghost use Rattle.hub_loop.specs.Noticing.{ports_in};
+ghost use Rattle.hub_loop.specs.Telling.{NoticesMore};
+ghost use Rattle.hub_loop.specs.declared.ending.StillOpen.TheVariants.{
+  Held as HeldOpen,
+  Queue as QueueOpen,
+  Arrived as ArrivedOpen,
 };
 ghost use Rattle.hub_loop.specs.declared.held.Held.TheVariants.{Line as LineHeld};
-ghost use Rattle.hub_loop.specs.Noticing.{ClosesLast, open_number, port_in};
-ghost use Rattle.hub_loop.specs.States.{OpenState, open_held};
-ghost use Rattle.hub_loop.specs.Telling.{NoticesMore};
 
 use crate::closed::{ClosedEnd, ClosedPort};
 use crate::delivery::Undelivered;
+use crate::ends::{HeldEnds, Holding};
 use crate::held::Held;
 use hub_broadcast::Roster;
 use hub_clients::HandedQueue;
@@ -49,65 +46,42 @@ use hub_queue::{Grave, Poster};
 use slab::Slab;
 use std::alloc::Global;
 use std::collections::VecDeque;
-use std::marker::Model;
+use std::mem::replace;
 use std::sync::Wait;
 
 /// What is closed when a loop ends.
 #[derive(Drop)]
-pub(crate) struct StillOpen {
-    end: Opened,
-}
-
-/// What was taken out to be closed.
-#[derive(Drop)]
-pub(crate) enum Opened {
+pub(crate) enum StillOpen {
     Held(Held),
+    /// A queue that was fetched and not yet adopted.
+    Queue(HandedQueue),
     /// A port that was received and not yet adopted.
     Arrived(Arrived),
 }
 
-impl Model for StillOpen {
-    ghost use Rattle.hub_loop.specs.States.{OpenState, open_of};
-
-    ghost Value = { OpenState };
-
-    ghost view = { λ o. open_of o.end };
-}
-
 impl StillOpen {
-    /// A queue that was fetched.
-    fn of_queue(queue: HandedQueue) -> StillOpen
-        ensures { (passes : OpenState → Bool) → passes result ≡ queue_passes passes queue }
-    {
-        let held = match queue {
-            HandedQueue::Client(queue) => Held::Client(queue),
-            HandedQueue::Worker(queue) => Held::Worker(queue),
-        };
-        StillOpen {
-            end: Opened::Held(held),
-        }
-    }
-
     /// The number of the end, or of the end at which the line posts.
     pub(crate) fn end(&self) -> EndId
         ensures { result ≡ open_number self.now }
     {
-        match &self.end {
-            Opened::Held(held) => held.end(),
-            Opened::Arrived(arrived) => arrived.end(),
+        match self {
+            StillOpen::Held(held) => held.end(),
+            StillOpen::Queue(queue) => queue.end(),
+            StillOpen::Arrived(arrived) => arrived.end(),
         }
     }
 
     /// Closes it, a port with its notice. A line comes back.
     fn close<R: Wait>(self, rt: &R, hub: &Hub) -> Result<ClosedEnd, Poster>
         ensures ok { IfOk result (IsOpenClosed self) }
-        ensures err { IfErr result (λ line. self ≡ open_held (LineHeld line)) }
+        ensures err { IfErr result (λ line. self ≡ HeldOpen (LineHeld line)) }
     {
-        match self.end {
-            Opened::Held(held) => held.shut(rt, hub),
-            Opened::Arrived(arrived) => {
+        match self {
+            StillOpen::Held(held) => held.shut(rt, hub),
+            StillOpen::Queue(queue) => Ok(ClosedEnd::alone(queue.close())),
+            StillOpen::Arrived(arrived) => {
                 Ok(ClosedEnd::of_port(ClosedPort::close_arrived(rt, hub, arrived)))
-            },
+            }
         }
     }
 }
@@ -135,14 +109,8 @@ impl Closed {
 
     /// Makes room for so many more of each.
     pub(crate) fn reserve(&mut self, more: usize) -> Result<(), OutOfMemory>
-        ensures graves { OnOk result
-            (vec_len self.new.graves + more ≤ vec_capacity self.new.graves) }
-        ensures noticed { OnOk result
-            (vec_len self.new.noticed + more ≤ vec_capacity self.new.noticed) }
-        ensures lines { OnOk result
-            (vec_len self.new.lines + more ≤ vec_capacity self.new.lines) }
-        ensures same { self.new.graves.items ≡ self.old.graves.items }
-        ensures told { self.new.noticed.items ≡ self.old.noticed.items }
+        ensures room { OnOk result (HasRoom self.new more) }
+        ensures same { closed_of self.new ≡ closed_of self.old }
     {
         self.graves.reserve(more)?;
         self.noticed.reserve(more)?;
@@ -152,24 +120,23 @@ impl Closed {
 
     /// Keeps what a port was closed to.
     pub(crate) fn bury(&mut self, grave: Grave, port: ClosedPort)
-        requires graves { vec_len self.old.graves < vec_capacity self.old.graves }
-        requires noticed { vec_len self.old.noticed < vec_capacity self.old.noticed }
+        requires { HasRoom self.old 1 }
         ensures graves { self.new.graves.items ≡ self.old.graves.items ++ grave ∷ [] }
         ensures noticed { self.new.noticed.items ≡ self.old.noticed.items ++ port ∷ [] }
-        ensures lines { self.new.lines ≡ self.old.lines }
+        ensures room { (more : ℕ) → HasRoom self.old (more + 1) → HasRoom self.new more }
     {
         self.graves.push_reserved(grave);
         self.noticed.push_reserved(port);
     }
 
     /// Closes an end, or keeps a line.
-    pub(crate) fn close<R: Wait>(&mut self, rt: &R, hub: &Hub, opened: StillOpen)
-        requires graves { vec_len self.old.graves < vec_capacity self.old.graves }
-        requires noticed { vec_len self.old.noticed < vec_capacity self.old.noticed }
-        requires lines { vec_len self.old.lines < vec_capacity self.old.lines }
-        ensures buried { (e : ℕ) → count_by (is_grave e) self.new.graves.items
-            ≡ count_by (is_grave e) self.old.graves.items + cond (is_open e opened) 1 0 }
-        ensures told { NoticesMore (port_in opened) self.old.noticed.items self.new.noticed.items }
+    fn close<R: Wait>(&mut self, rt: &R, hub: &Hub, opened: StillOpen)
+        requires { HasRoom self.old 1 }
+        ensures graves { grave_ends self.new.graves.items
+            ≡ grave_ends self.old.graves.items ++ open_ends (opened ∷ []) }
+        ensures told { NoticesMore (ports_in (opened ∷ [])) self.old.noticed.items
+            self.new.noticed.items }
+        ensures room { (more : ℕ) → HasRoom self.old (more + 1) → HasRoom self.new more }
     {
         match opened.close(rt, hub) {
             Ok(ClosedEnd { grave, port }) => match port {
@@ -180,27 +147,17 @@ impl Closed {
         }
     }
 
-    /// Closes these from the last to the first. After an error those that weren't closed are still
-    /// there.
-    pub(crate) fn close_all<R: Wait>(
-        &mut self,
-        rt: &R,
-        hub: &Hub,
-        all: &mut Vec<StillOpen>,
-    ) -> Result<(), OutOfMemory>
-        ensures moved { (e : ℕ) →
-            count_by (is_grave e) self.new.graves.items + count_by (is_open e) all.new.items
-            ≡ count_by (is_grave e) self.old.graves.items + count_by (is_open e) all.old.items }
-        ensures told { ClosesLast all.old.items all.new.items self.old.noticed.items
+    /// Closes these, in order. There is room for what they are closed to.
+    pub(crate) fn close_all<R: Wait>(&mut self, rt: &R, hub: &Hub, all: Vec<StillOpen>)
+        requires { HasRoom self.old (vec_len all) }
+        ensures graves { grave_ends self.new.graves.items
+            ≡ grave_ends self.old.graves.items ++ open_ends all.items }
+        ensures told { NoticesMore (ports_in all.items) self.old.noticed.items
             self.new.noticed.items }
-        ensures all { OnOk result (all.new.items ≡ []) }
     {
-        while !all.is_empty() {
-            self.reserve(1)?;
-            let opened = all.pop().unwrap();
+        for opened in all {
             self.close(rt, hub, opened);
         }
-        Ok(())
     }
 }
 
@@ -208,100 +165,112 @@ impl Closed {
 /// a member of an agent whose queue is closed already.
 pub(crate) fn leave_all<L: Lends<Roster>, R: Wait>(rt: &R, roster: &mut L, all: &[StillOpen]) {
     for opened in all {
-        if let Opened::Held(held) = &opened.end {
+        if let StillOpen::Held(held) = opened {
             held.leave(rt, roster);
         }
     }
 }
 
-/// Takes out what is held under a key.
-fn take_at(held: &mut Slab<Held>, key: usize, opened: &mut Vec<StillOpen>)
-    requires { vec_len opened.old < vec_capacity opened.old }
-    ensures capacity { held.new.capacity ≡ held.old.capacity }
-    ensures length { length held.new.slots ≡ length held.old.slots }
-    ensures gone { get held.new key ≡ None }
-    ensures others { (other : ℕ) → other ≢ key → get held.new other ≡ get held.old other }
-    ensures moved { (passes : OpenState → Bool) →
-        count_by (slot_passes passes) held.new.slots + count_by passes opened.new.items
-        ≡ count_by (slot_passes passes) held.old.slots + count_by passes opened.old.items }
+/// The sum, where it fits.
+fn sum_of(held: usize, fetched: usize, found: usize) -> Result<usize, OutOfMemory>
+    ensures { IfOk result (λ sum. sum ≡ held + fetched + found) }
 {
-    match held.try_remove(key) {
-        Some(held) => opened.push_reserved(StillOpen {
-            end: Opened::Held(held),
-        }),
-        None => {}
-    }
+    let sum = held.checked_add(fetched).ok_or(OutOfMemory)?;
+    sum.checked_add(found).ok_or(OutOfMemory)
 }
 
-/// Takes out all that is held.
-pub(crate) fn take_held(
-    held: &mut Slab<Held>,
-    opened: &mut Vec<StillOpen>,
-) -> Result<(), OutOfMemory>
-    ensures capacity { held.new.capacity ≡ held.old.capacity }
-    ensures rest { (key : ℕ) → (get held.new key ≡ None) ⊎ (get held.new key ≡ get held.old key) }
-    ensures moved { (passes : OpenState → Bool) →
-        count_by (slot_passes passes) held.new.slots + count_by passes opened.new.items
-        ≡ count_by (slot_passes passes) held.old.slots + count_by passes opened.old.items }
-    ensures all { OnOk result ((passes : OpenState → Bool) →
-        count_by (slot_passes passes) held.new.slots ≡ 0) }
+/// How many ports were found for a delivery and not adopted yet.
+fn count_found(kept: &Option<Undelivered>) -> usize
+    ensures { result ≡ length (found_of kept.now) }
 {
-    for key in 0..held.capacity() {
-        opened.reserve(1)?;
-        take_at(held, key, opened);
+    match kept {
+        Some(delivery) => match &delivery.arrival {
+            Some(receiving) => receiving.found.len(),
+            None => 0,
+        },
+        None => 0,
     }
-    Ok(())
-}
-
-/// Takes out the queues.
-pub(crate) fn take_queues(
-    queues: &mut Vec<HandedQueue>,
-    opened: &mut Vec<StillOpen>,
-) -> Result<(), OutOfMemory>
-    ensures moved { (passes : OpenState → Bool) →
-        count_by (queue_passes passes) queues.new.items + count_by passes opened.new.items
-        ≡ count_by (queue_passes passes) queues.old.items + count_by passes opened.old.items }
-    ensures all { OnOk result (queues.new.items ≡ []) }
-{
-    while !queues.is_empty() {
-        opened.reserve(1)?;
-        let queue = queues.pop().unwrap();
-        opened.push_reserved(StillOpen::of_queue(queue));
-    }
-    Ok(())
 }
 
 /// Takes out the ports that were found for a delivery and not adopted yet.
-pub(crate) fn take_found(
-    kept: &mut Option<Undelivered>,
-    opened: &mut Vec<StillOpen>,
-) -> Result<(), OutOfMemory>
-    ensures moved { (passes : OpenState → Bool) →
-        count_by (arrived_passes passes) (found_of kept.new) + count_by passes opened.new.items
-        ≡ count_by (arrived_passes passes) (found_of kept.old) + count_by passes opened.old.items }
-    ensures all { OnOk result (found_of kept.new ≡ []) }
+fn take_found(alloc: Global, kept: &mut Option<Undelivered>) -> VecDeque<Arrived>
+    ensures { result.items ≡ found_of kept.old }
 {
+    let none = VecDeque::new(alloc);
     match kept {
         Some(delivery) => match &mut delivery.arrival {
-            Some(receiving) => take_ports(&mut receiving.found, opened),
-            None => Ok(()),
+            Some(receiving) => replace(&mut receiving.found, none),
+            None => none,
         },
-        None => Ok(()),
+        None => none,
     }
 }
 
-fn take_ports(found: &mut VecDeque<Arrived>, opened: &mut Vec<StillOpen>) -> Result<(), OutOfMemory>
-    ensures moved { (passes : OpenState → Bool) →
-        count_by (arrived_passes passes) found.new.items + count_by passes opened.new.items
-        ≡ count_by (arrived_passes passes) found.old.items + count_by passes opened.old.items }
-    ensures all { OnOk result (found.new.items ≡ []) }
+/// Puts what was held to what is to be closed. There is room for it.
+fn open_held(held: Slab<Held>, opened: &mut Vec<StillOpen>)
+    requires { vec_len opened.old + length (entries held) ≤ vec_capacity opened.old }
+    ensures items { opened.new.items
+        ≡ opened.old.items ++ map (λ entry. HeldOpen entry.1) (entries held) }
+    ensures len { vec_len opened.new ≡ vec_len opened.old + length (entries held) }
+    ensures capacity { vec_capacity opened.new ≡ vec_capacity opened.old }
 {
-    while !found.is_empty() {
-        opened.reserve(1)?;
-        let arrived = found.pop_front().unwrap();
-        opened.push_reserved(StillOpen {
-            end: Opened::Arrived(arrived),
-        });
+    for (_, held) in held {
+        opened.push_reserved(StillOpen::Held(held));
     }
-    Ok(())
+}
+
+/// The same of the queues that were fetched.
+fn open_queues(queues: Vec<HandedQueue>, opened: &mut Vec<StillOpen>)
+    requires { vec_len opened.old + vec_len queues ≤ vec_capacity opened.old }
+    ensures items { opened.new.items ≡ opened.old.items ++ map QueueOpen queues.items }
+    ensures len { vec_len opened.new ≡ vec_len opened.old + vec_len queues }
+    ensures capacity { vec_capacity opened.new ≡ vec_capacity opened.old }
+{
+    for queue in queues {
+        opened.push_reserved(StillOpen::Queue(queue));
+    }
+}
+
+/// The same of the ports that were found.
+fn open_ports(found: VecDeque<Arrived>, opened: &mut Vec<StillOpen>)
+    requires { vec_len opened.old + deque_len found ≤ vec_capacity opened.old }
+    ensures items { opened.new.items ≡ opened.old.items ++ map ArrivedOpen found.items }
+    ensures len { vec_len opened.new ≡ vec_len opened.old + deque_len found }
+{
+    for arrived in found {
+        opened.push_reserved(StillOpen::Arrived(arrived));
+    }
+}
+
+impl Holding {
+    /// Takes out all that is to be closed: what is held, the queues that were fetched, and the
+    /// ports that were found for a kept delivery. The room for them, and for what they are closed
+    /// to, is made before anything is moved.
+    pub(crate) fn take_open(
+        &mut self,
+        alloc: Global,
+        fetched: &mut Vec<HandedQueue>,
+        kept: &mut Option<Undelivered>,
+    ) -> Result<Vec<StillOpen>, OutOfMemory>
+        ensures taken { IfOk result (λ opened. opened.items
+            ≡ still_open self.old.ends.held fetched.old.items kept.old) }
+        ensures room { IfOk result (λ opened. HasRoom self.new.closed (vec_len opened)) }
+        ensures closed { closed_of self.new.closed ≡ closed_of self.old.closed }
+        ensures err { OnErr result ((holding_of self.new ≡ holding_of self.old)
+            × (fetched.new.items ≡ fetched.old.items) × (kept.new ≡ kept.old)) }
+    {
+        let count = sum_of(self.ends.held.len(), fetched.len(), count_found(kept))?;
+        let mut opened = Vec::with_capacity(alloc, count)?;
+        self.closed.reserve(count)?;
+        let HeldEnds {
+            held,
+            next: _,
+            ready: _,
+            lines: _,
+        } = replace(&mut self.ends, HeldEnds::new(alloc));
+        open_held(held, &mut opened);
+        open_queues(replace(fetched, Vec::new(alloc)), &mut opened);
+        open_ports(take_found(alloc, kept), &mut opened);
+        Ok(opened)
+    }
 }

@@ -47,6 +47,18 @@ fn list_line(
 }
 
 impl HeldEnds {
+    /// Nothing is held. It takes no memory.
+    pub(crate) fn new(alloc: Global) -> HeldEnds
+        ensures { result.held.slots ≡ [] }
+    {
+        HeldEnds {
+            held: Slab::new(alloc),
+            next: 0,
+            ready: Ready::new(alloc),
+            lines: BTreeSet::new(alloc),
+        }
+    }
+
     /// Holds one more, for which there is room. An end is marked, since something may wait there.
     pub(crate) fn put(&mut self, held: Held)
         requires room { HasRoomFor self.old.held 1 }
@@ -139,12 +151,7 @@ impl Holding {
     {
         Holding {
             bell,
-            ends: HeldEnds {
-                held: Slab::new(alloc),
-                next: 0,
-                ready: Ready::new(alloc),
-                lines: BTreeSet::new(alloc),
-            },
+            ends: HeldEnds::new(alloc),
             closed: Closed::new(alloc),
         }
     }

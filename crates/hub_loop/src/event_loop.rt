@@ -44,7 +44,6 @@ ghost use Rattle.hub_loop.specs.declared.handler.Turn.TheVariants.{Ending};
 
 use crate::closing::Shutdown;
 use crate::delivery::Undelivered;
-use crate::ending::StillOpen;
 use crate::ends::Holding;
 use crate::error::LoopError;
 use crate::handler::{Checkpoint, Handler, Turn};
@@ -84,9 +83,7 @@ pub struct EventLoop<H: Handler + Drop, C: Checkpoint + Drop> {
     pub(crate) kept: Option<Undelivered>,
     /// Queues that were fetched and not adopted yet, for want of memory.
     pub(crate) fetched: Vec<HandedQueue>,
-    /// What an `end` that was stopped by want of memory has taken out and not closed yet.
-    pub(crate) opened: Vec<StillOpen>,
-    /// How far it has come after that.
+    /// How far an `end` that was stopped by want of memory has come.
     pub(crate) closing: Option<Shutdown>,
     /// How many deliveries were made.
     pub(crate) delivered: u64,
@@ -105,7 +102,6 @@ impl<H: Handler + Drop, C: Checkpoint + Drop> Drop for EventLoop<H, C> {
             holding,
             kept,
             fetched,
-            opened,
             closing,
             delivered: _,
         } = self;
@@ -116,7 +112,6 @@ impl<H: Handler + Drop, C: Checkpoint + Drop> Drop for EventLoop<H, C> {
         drop(holding);
         drop(kept);
         drop(fetched);
-        drop(opened);
         drop(closing);
     }
 }
@@ -133,7 +128,6 @@ impl<H: Handler + Drop, C: Checkpoint + Drop> Model for EventLoop<H, C> {
       holding = holding_of l.holding;
       kept = l.kept;
       fetched = l.fetched.items;
-      opened = l.opened.items;
       closing = l.closing;
     } };
 }
@@ -158,8 +152,7 @@ impl<H: Handler + Drop, C: Checkpoint + Drop> EventLoop<H, C> {
         ensures listener { IfOk result (λ opened. (opened.listener ≡ bell)
             × (opened.holding.bell ≡ new_at bell.board)) }
         ensures rest { IfOk result (λ opened. (opened.fetched ≡ [])
-            × (opened.opened ≡ []) × (opened.holding.closed.graves ≡ [])
-            × (opened.closing ≡ None)) }
+            × (opened.holding.closed.graves ≡ []) × (opened.closing ≡ None)) }
     {
         let holding = Holding::new(alloc, bell.bell()?);
         Ok(EventLoop {
@@ -172,7 +165,6 @@ impl<H: Handler + Drop, C: Checkpoint + Drop> EventLoop<H, C> {
             holding,
             kept: None,
             fetched: Vec::new(alloc),
-            opened: Vec::new(alloc),
             closing: None,
             delivered: 0,
         })

@@ -1,9 +1,8 @@
-use Rattle.std.proofs.Common.{rules, ◌∙◌, sym, ap, subst}
-use Rattle.std.specs.Prelude.{count_by}
-use Rattle.std.specs.List.Sorted.{IsNonDecreasing}
-use Rattle.std.proofs.lemmas.List.Sorted.{IsNonDecreasingBy-from_sort_by_key}
-use Rattle.hub_loop.specs.Ending.{is_grave, grave_ends}
-use Rattle.hub_loop.proofs.Counted.{count-permuted, rises}
+use Rattle.std.proofs.Common.{rules, sym, subst}
+use Rattle.std.specs.List.Sorted.{IsNonDecreasing, IsPermutation}
+use Rattle.std.proofs.lemmas.List.Sorted.{IsNonDecreasingBy-from_sort_by_key, IsPermutation-map}
+use Rattle.hub_loop.specs.Ending.{grave_ends}
+use Rattle.hub_loop.proofs.Closings.{rises}
 use Rattle.hub_loop.proofs.closing.Shutdown.new.Goals as goal
 
 pub returns-clause-sorted : goal.returns-clause-sorted
@@ -13,6 +12,7 @@ returns-clause-sorted c =
     (IsNonDecreasingBy-from_sort_by_key (λ g. g.end) _ c.sort_unstable_by_key.ensures.sorted (λ a r f h. search rules)))
 
 pub returns-clause-same : goal.returns-clause-same
-returns-clause-same c e =
-    ap (count_by (is_grave e)) c.from_vec.ensures.items
-    ∙ count-permuted (is_grave e) c.args.closed.graves.items c.sort_unstable_by_key.new.self.items c.sort_unstable_by_key.ensures.permutation
+returns-clause-same c =
+    let old = c.args.closed.graves.items in
+    subst (λ items. IsPermutation (grave_ends old) (grave_ends items)) (sym c.from_vec.ensures.items)
+    (IsPermutation-map (λ g. g.end) old c.sort_unstable_by_key.new.self.items c.sort_unstable_by_key.ensures.permutation)

@@ -1,14 +1,15 @@
-use Rattle.std.proofs.Common.{◌≡◌, ℕ, ◌+◌}
-use Rattle.std.specs.Prelude.{vec_len, count_by}
-use Rattle.hub_loop.specs.Ending.{is_grave, is_open}
-use Rattle.hub_loop.specs.Noticing.{ClosesLast}
+use Rattle.std.proofs.Common.{◌≡◌, ◌++◌}
+use Rattle.std.specs.Vec.Iter.{into_iter_items, into_iter_len}
+use Rattle.hub_loop.specs.Closing.{HasRoom}
+use Rattle.hub_loop.specs.Ending.{grave_ends, open_ends}
+use Rattle.hub_loop.specs.Noticing.{ports_in}
+use Rattle.hub_loop.specs.Telling.{NoticesMore}
 use Rattle.hub_loop.proofs.ending.Closed.close_all.Given as goal
 
-abbrev pub invariant-loop-self : goal.invariant-loop-self
-invariant-loop-self g l = record {
-  moved : (e : ℕ) → count_by (is_grave e) l.self.graves.items + count_by (is_open e) l.all.items ≡ count_by (is_grave e) l.fn.self.graves.items + count_by (is_open e) l.fn.all.items;
-  told : ClosesLast l.fn.all.items l.all.items l.fn.self.noticed.items l.self.noticed.items;
+abbrev pub invariant-loop-opened : goal.invariant-loop-opened
+invariant-loop-opened g l = record {
+  left : l.fn.all.items ≡ l.yielded ++ into_iter_items l.opened-iterator;
+  room : HasRoom l.self (into_iter_len l.opened-iterator);
+  graves : grave_ends l.self.graves.items ≡ grave_ends l.fn.self.graves.items ++ open_ends l.yielded;
+  told : NoticesMore (ports_in l.yielded) l.fn.self.noticed.items l.self.noticed.items;
 }
-
-abbrev pub decreases-loop-self : goal.decreases-loop-self
-decreases-loop-self g l = vec_len l.all

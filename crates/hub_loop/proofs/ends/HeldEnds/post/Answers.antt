@@ -1,7 +1,7 @@
 use Rattle.std.proofs.Common.{◌≡◌, Some, rules}
 use Rattle.slab.specs.Slab.{get}
 use Rattle.hub_ports.specs.Refusing.{answer_with, carried_body}
-use Rattle.hub_loop.proofs.Posts.{posted-end, same-end, way-lacks, way-posts}
+use Rattle.hub_loop.proofs.Posts.{posted-end, same-end}
 use Rattle.hub_loop.proofs.ends.HeldEnds.post.Goals as goal
 
 pub invariant_of-self : goal.invariant_of-self

@@ -13,6 +13,5 @@ returns-in_err-held-clause-none g c =
       holding = holding_of (record inside.holding { ends = e });
       kept = inside.kept;
       fetched = inside.fetched.items;
-      opened = inside.opened.items;
       closing = inside.closing;
     }) (sym c.in_err-held.ensures.unchanged) (sym c.self.view_is)))
