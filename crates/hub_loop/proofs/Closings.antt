@@ -24,8 +24,8 @@ entries-from key (Some x ∷ slots) =
     omega (arith, rest, split)
 
 -- so many are held
-pub entries-held : {X : Type 0} (slots : Slab X) → length (entries slots) ≡ slab_len slots
-entries-held slots = entries-from 0 slots.slots
+pub entries_held : {X : Type 0} (slots : Slab X) → length (entries slots) ≡ slab_len slots
+entries_held slots = entries-from 0 slots.slots
 
 -- one more of the list was taken
 pub next-left : {X : Type 0} (all done rest after : List X) (x : X) → all ≡ done ++ rest → rest ≡ x ∷ after → all ≡ (done ++ x ∷ []) ++ after

@@ -27,8 +27,8 @@ impl<H: Handler + Drop, C: Checkpoint + Drop> EventLoop<H, C> {
     /// It answers what was swept, first the ends that the loop held, in rising order, and then the
     /// ports that were named; and of each port that was closed, in the order of closing, the number
     /// and what became of its notice, those that a turn has closed first. A line that the directory
-    /// refuses is dropped. All the room that can be counted is made first: after `OutOfMemory` the
-    /// loop is as it was, or only the sweeping is left, and the next `end` goes on.
+    /// refuses is dropped. The room that can be counted is made before anything is moved: after
+    /// `OutOfMemory` the loop is as it was, or all that it had is closed. The next `end` goes on.
     pub fn end<L: Lends<Roster>, R: Wait>(
         mut self,
         rt: &R,

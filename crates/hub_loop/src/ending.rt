@@ -171,14 +171,6 @@ pub(crate) fn leave_all<L: Lends<Roster>, R: Wait>(rt: &R, roster: &mut L, all: 
     }
 }
 
-/// The sum, where it fits.
-fn sum_of(held: usize, fetched: usize, found: usize) -> Result<usize, OutOfMemory>
-    ensures { IfOk result (λ sum. sum ≡ held + fetched + found) }
-{
-    let sum = held.checked_add(fetched).ok_or(OutOfMemory)?;
-    sum.checked_add(found).ok_or(OutOfMemory)
-}
-
 /// How many ports were found for a delivery and not adopted yet.
 fn count_found(kept: &Option<Undelivered>) -> usize
     ensures { result ≡ length (found_of kept.now) }
@@ -192,9 +184,24 @@ fn count_found(kept: &Option<Undelivered>) -> usize
     }
 }
 
+/// How many are to be closed.
+#[tactic(auto, using(crate::proofs::Closings::entries_held))]
+fn count_open(
+    held: &Slab<Held>,
+    fetched: &[HandedQueue],
+    kept: &Option<Undelivered>,
+) -> Result<usize, OutOfMemory>
+    ensures { IfOk result (λ count. count
+        ≡ length (entries held.now) + length fetched.now + length (found_of kept.now)) }
+{
+    let count = held.len().checked_add(fetched.len()).ok_or(OutOfMemory)?;
+    count.checked_add(count_found(kept)).ok_or(OutOfMemory)
+}
+
 /// Takes out the ports that were found for a delivery and not adopted yet.
 fn take_found(alloc: Global, kept: &mut Option<Undelivered>) -> VecDeque<Arrived>
-    ensures { result.items ≡ found_of kept.old }
+    ensures items { result.items ≡ found_of kept.old }
+    ensures len { deque_len result ≡ length (found_of kept.old) }
 {
     let none = VecDeque::new(alloc);
     match kept {
@@ -259,7 +266,7 @@ impl Holding {
         ensures err { OnErr result ((holding_of self.new ≡ holding_of self.old)
             × (fetched.new.items ≡ fetched.old.items) × (kept.new ≡ kept.old)) }
     {
-        let count = sum_of(self.ends.held.len(), fetched.len(), count_found(kept))?;
+        let count = count_open(&self.ends.held, fetched.as_slice(), kept)?;
         let mut opened = Vec::with_capacity(alloc, count)?;
         self.closed.reserve(count)?;
         let HeldEnds {
