@@ -1,4 +1,5 @@
 -- What a post of an agent comes to: what is taken out of its loop and held again, and what that makes of its log and its ends.
+use Rattle.std.specs.Prelude.{IfOk, false}
 use Rattle.std.specs.Result.{result_and}
 use Rattle.std.proofs.Common.{◌≡◌, ◌≢◌, ◌∙◌, ◌≤◌, ◌<◌, ℕ, zero, suc, Vec, ◌+◌, Bool, cond, List, [], ◌∷◌, ◌++◌, length, take, drop, get_or, count_by, Option, Some, None, Result, Ok, Err, OnOk, ap, sym, refl, subst, inl, inr, arith}
 use Rattle.std.specs.declared.alloc.Global.{Global}
@@ -282,3 +283,8 @@ lacks_other ends i d ports old lent out less again new h back below are taken sa
       alike_with ports old out less again new h taken was (subst (λ (k : Held). HoldsMore less again k) is more) held,
       (ports, out, taken, lacks_next ends i d ports out below are (inr (h, (was.0, was.2.changed), end, other))),
     )
+
+-- where no line was had, and what is held is as it was, still no line to the queue is held
+pub none_had : {E : Type 0} (r : Result Bool E) (old new : Slab Held) (queue : EndId) → IfOk r (λ has. has ≡ false → new ≡ old) → HoldsNoLine old queue → IfOk r (λ has. has ≡ false → HoldsNoLine new queue)
+none_had (Ok has) old new queue same none = λ is. subst (λ slots. HoldsNoLine slots queue) (sym (same is)) none
+none_had (Err e) old new queue same none = tt

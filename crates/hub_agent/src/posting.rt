@@ -124,7 +124,29 @@ impl<'s, C: Checkpoint, K: Lends<Roster> + Drop> Agent<'s, C, K> {
 
     /// Takes the ports out of the loop, in order. `None` where one isn't held; then it holds again
     /// those that it took out.
+    #[inline(always)]
     fn release_ports<R: Wait>(
+        &mut self,
+        rt: &R,
+        ends: &[EndId],
+    ) -> Result<Option<Vec<Port>>, OutOfMemory>
+        ensures same { KeepsButEnds self.old self.new }
+        ensures ports { IfOk result (λ ports. IfSome ports (λ released.
+            ends_of released.items ≡ ends.now)) }
+        ensures released { IfOk result (λ ports. IfSome ports (λ released.
+            TakesOut released.items self.old.ends self.new.ends)) }
+        ensures again { IfOk result (λ ports. IfNone ports (LacksOne ends.now
+            self.old.ends self.new.ends)) }
+    {
+        if ends.is_empty() {
+            return Ok(Some(Vec::new(self.alloc)));
+        }
+        self.release_each(rt, ends)
+    }
+
+    /// The same. It is called for a list with ports alone, since it clears room for one.
+    #[inline(never)]
+    fn release_each<R: Wait>(
         &mut self,
         rt: &R,
         ends: &[EndId],
@@ -186,6 +208,7 @@ impl<'s, C: Checkpoint, K: Lends<Roster> + Drop> Agent<'s, C, K> {
     }
 
     /// Holds a line to a queue, unless it does. False where the directory lends none.
+    #[inline(always)]
     fn take_line<R: Wait>(&mut self, rt: &R, queue: EndId) -> Result<bool, OutOfMemory>
         ensures same { KeepsButEnds self.old self.new }
         ensures held { OnOk result (HasLine queue self.old.ends self.new.ends) }
@@ -194,6 +217,16 @@ impl<'s, C: Checkpoint, K: Lends<Roster> + Drop> Agent<'s, C, K> {
         if self.event_loop.has_line(queue) {
             return Ok(true);
         }
+        self.borrow_line(rt, queue)
+    }
+
+    /// Holds a line to a queue that the directory lends. False where it lends none.
+    #[inline(never)]
+    fn borrow_line<R: Wait>(&mut self, rt: &R, queue: EndId) -> Result<bool, OutOfMemory>
+        ensures same { KeepsButEnds self.old self.new }
+        ensures held { OnOk result (HasLine queue self.old.ends self.new.ends) }
+        ensures none { IfOk result (λ has. has ≡ false → self.new.ends ≡ self.old.ends) }
+    {
         match self.shared.directory.line_to(rt, queue) {
             Ok(line) => {
                 self.hold(rt, Held::Line(line))?;

@@ -2,7 +2,7 @@ use Rattle.std.proofs.Common.{◌≡◌, ◌+◌, ◌≤◌, length, take, vec_l
 use Rattle.hub_ports.specs.Seats.{ends_of}
 use Rattle.hub_agent.specs.Agents.{KeepsButEnds}
 use Rattle.hub_agent.specs.Posting.{TakesOut}
-use Rattle.hub_agent.proofs.agent.Agent.release_ports.Given as goal
+use Rattle.hub_agent.proofs.agent.Agent.release_each.Given as goal
 
 abbrev pub invariant-loop-end : goal.invariant-loop-end
 invariant-loop-end g l = record {

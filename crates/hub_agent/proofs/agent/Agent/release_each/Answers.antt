@@ -2,7 +2,7 @@ use Rattle.std.proofs.Common.{ap, arith, rules}
 use Rattle.std.proofs.lemmas.Grind.{common_steps}
 use Rattle.hub_agent.specs.Agents.{AgentState}
 use Rattle.hub_agent.proofs.Sending.{both_of, lacks_none, lacks_other, takes_one}
-use Rattle.hub_agent.proofs.agent.Agent.release_ports.Goals as goal
+use Rattle.hub_agent.proofs.agent.Agent.release_each.Goals as goal
 
 pub returns-in-Err : goal.returns-in-Err
 returns-in-Err g c =
