@@ -40,7 +40,9 @@ void Agent::run() {
         JSAutoRealm realm(context, global);
         call("begin", nullptr);
         if (inside != nullptr) start(*inside);
-        run_tasks();
+        RootedValue result(context);
+        while (!call("run", JS::HandleValueArray::empty(), &result) && !is_over())
+            report_pending();
     } else if (!inbox->is_ending()) {
         std::fputs("varukoni-js: the engine can't be started\n", stderr);
         program.has_failed = true;
@@ -92,7 +94,8 @@ void Agent::end() {
     }
     std::lock_guard<std::mutex> held(program.broadcasts.lock);
     broadcasts_to = varukoni::Port();
-    for (auto *kept : {&global, &hooks, &port_prototype, &event_prototype, &message_hook})
+    for (auto *kept : {&global, &hooks, &port_prototype, &event_prototype, &stamped_port,
+                       &stamped_event})
         kept->reset();
 }
 
@@ -102,9 +105,11 @@ Agent::~Agent() {
     if (start_of.creator)
         start_of.creator->put({Notice::Kind::worker_ended, start_of.id_at_creator});
 }
+
 bool Agent::call(const char *hook, const HandleValueArray &words, MutableHandleValue result) {
     return !inbox->is_ending() && JS::Call(context, hooks, hook, words, result);
 }
+
 void Agent::call(const char *hook, JSObject *object, HandleValue more) {
     RootedValueArray<2> words(context);
     RootedValue result(context);
@@ -113,6 +118,7 @@ void Agent::call(const char *hook, JSObject *object, HandleValue more) {
     if (!call(hook, words, &result)) report_pending();
     checkpoint();
 }
+
 void Agent::report_pending() {
     RootedValueArray<1> words(context);
     RootedValue result(context);
@@ -120,6 +126,7 @@ void Agent::report_pending() {
     JS_ClearPendingException(context);
     if (!call("report", words, &result)) JS_ClearPendingException(context);
 }
+
 void Agent::checkpoint() {
     if (!inbox->is_ending()) js::RunJobs(context);
     if (has_rejections && !inbox->is_ending()) {
@@ -129,20 +136,26 @@ void Agent::checkpoint() {
 }
 
 // Tasks: a timer that is due, and a message of the port that has waited longest, in turn.
-void Agent::run_tasks() {
+void Agent::next(MutableHandleValue message) {
+    checkpoint();
     while (!is_over()) {
         take_notices();
         const bool is_due = timer && *timer <= Clock::now();
         if (is_due) call("timers", nullptr);
-        if (is_over() || run_message() || is_due) continue;
-        if (!has_work()) break;
+        if (is_over()) return;
+        const bool is_task = run_task(message);
+        if (message.isObject()) return;
+        if (is_task || is_due) continue;
+        if (!has_work()) return;
         inbox->sleep(timer);
     }
 }
+
 bool Agent::has_work() const {
     return timer || !workers.empty() || kept_ports > 0 || listened_channels > 0
            || (is_scope_listened && inside->port.is_open());
 }
+
 void Agent::take_notices() {
     inbox->take(notices);
     for (const auto &[kind, id] : notices) {
@@ -156,14 +169,14 @@ void Agent::take_notices() {
     notices.clear();
 }
 
-bool Agent::run_message() {
-    if (broadcast && deliver_broadcast()) return true;
+bool Agent::run_task(MutableHandleValue message) {
+    if (broadcast && deliver_broadcast(message)) return true;
     while (!ready.empty()) {
         auto found = ports.find(ready.front());
         ready.pop_front();
         if (found == ports.end()) continue;
         found->second->is_queued = false;
-        if (look_at(*found->second)) return true;
+        if (look_at(*found->second, message)) return true;
     }
     return false;
 }

@@ -8,6 +8,8 @@
 
 #include <js/Array.h>
 #include <js/CompilationAndEvaluation.h>
+#include <js/ForOfIterator.h>
+#include <js/PropertyDescriptor.h>
 #include <js/SourceText.h>
 #include <js/StructuredClone.h>
 #include <jsfriendapi.h>
@@ -31,6 +33,7 @@ inline constexpr std::uint32_t slot_and_finalizer =
 template <typename Native> Native *behind(JSObject *object) {
     return JS::GetMaybePtrFromReservedSlot<Native>(object, native_slot);
 }
+
 template <typename Native> std::size_t moved(JSObject *object, JSObject *) {
     if (auto *native = behind<Native>(object)) native->object.unbarrieredSet(object);
     return 0;
@@ -57,30 +60,26 @@ struct ScriptPort {
 
     bool keeps_program() const { return is_started && kind <= Kind::worker; }
 };
-void set_port(JSObject *object, ScriptPort *port);
-// Closes a port, and all ports in what nobody read, without a call within a call.
-void discard(ScriptPort *port);
 
-// What a message carries: a cloned value with its ports. A small clone with nothing but bytes is a
-// part of this, since a queue may have many.
+void set_port(JSObject *object, ScriptPort *port);
+// Closes a port if there is one, and all ports in what nobody read, without a call within a call.
+void discard(ScriptPort *port);
+// What a message carries: the engine's clone of a value, and the ports that nobody has read. A small
+// clone of nothing but bytes stands behind this in its block, since a queue may have many.
 struct Parcel final : varukoni::Body {
-    struct Rest {
-        JSStructuredCloneData data;
-        Ends ends;
-    };
-    std::unique_ptr<Rest> rest;
+    // The bytes behind this; none where the clone is a large one.
+    const std::size_t size;
+    std::unique_ptr<const JSStructuredCloneData> large;
+    mutable std::vector<ScriptPort *> ports;
     // In a recording: its number on its line.
     std::uint64_t number = 0;
-    const std::size_t size;
     // It tells of an error that nobody has handled in the worker that posts it.
     bool is_error = false;
-    static std::unique_ptr<Parcel> of(std::size_t size) {
-        return std::unique_ptr<Parcel>(new (size) Parcel(size));
-    }
-    char *bytes() { return reinterpret_cast<char *>(this + 1); }
+    static std::unique_ptr<Parcel> of(JSStructuredCloneData &&clone, bool is_small);
+    ~Parcel() { for (ScriptPort *port : ports) discard(port); }
     const char *bytes() const { return reinterpret_cast<const char *>(this + 1); }
     std::string text() const;
-    Ends ends() const { return rest ? rest->ends : Ends(); }
+    Ends ends() const;
     void operator delete(void *at) { ::operator delete(at); }
 
   private:
@@ -146,17 +145,21 @@ class Agent {
           log(start_of.log.get()), inside(start_of.inside.get()) {}
     ~Agent();
     static Agent &of(JSContext *from) { return *static_cast<Agent *>(JS_GetContextPrivate(from)); }
-    // Runs the script and then its tasks, until nothing is left that could make one.
+    // Runs the script and then its tasks.
     void run();
     // Calls a function that the prelude has given back; the second form does so as a task, for an
     // object where there is one. False where it throws, or the agent is ending.
     bool call(const char *hook, const HandleValueArray &words, MutableHandleValue result);
     void call(const char *hook, JSObject *object, HandleValue more = JS::UndefinedHandleValue);
-    void throw_named(const char *name, const char *message);
+    // False, as an error is thrown: a TypeError, or else a DOMException.
+    bool throw_named(const char *name, const char *message);
     void report_pending();
     void checkpoint();
     bool take_ends(std::uint32_t count, std::uint32_t &first);
     bool load(const std::string &path, const std::string &url, bool &is_there);
+    // Runs tasks until one is a message, which the prelude fires; none once nothing is left that
+    // could make a task.
+    void next(MutableHandleValue message);
     ScriptPort *port_of(JSObject *object) const {
         return object == global ? inside : behind<ScriptPort>(object);
     }
@@ -168,11 +171,12 @@ class Agent {
     void start(ScriptPort &port);
     void close(ScriptPort &port);
 
-    std::unique_ptr<Parcel> write(HandleValue value, HandleValue list, class Transfer *ports);
+    std::unique_ptr<Parcel> write(HandleValue value, class Transfer *listed = nullptr);
     bool read(const Parcel &parcel, AgentLog *moves, MutableHandleValue value,
               MutableHandleValue ports);
-    bool post(HandleObject object, HandleValue value, HandleValue list);
-    bool clone(HandleValue value, HandleValue list, MutableHandleValue result);
+    bool list_of(HandleValue given, JS::MutableHandleValueVector list);
+    bool post(HandleObject object, HandleValue value, const HandleValueArray &list);
+    bool clone(HandleValue value, const HandleValueArray &list, MutableHandleValue result);
     JSObject *join(HandleObject prototype, std::u16string name);
     void leave(BroadcastMember &member);
     void listen(BroadcastMember &member, bool is_listened);
@@ -190,7 +194,9 @@ class Agent {
     std::optional<Clock::time_point> timer;
     const Clock::time_point began = Clock::now();
     varukoni::Port broadcasts_to;
-    JS::PersistentRootedObject global, hooks, port_prototype, event_prototype, message_hook;
+    JS::PersistentRootedObject global, hooks, port_prototype, event_prototype;
+    // Objects of the prototypes whose private fields are there.
+    JS::PersistentRootedObject stamped_port, stamped_event;
 
   private:
     struct Worker {
@@ -216,15 +222,15 @@ class Agent {
     void end();
     bool is_over() const { return is_closing || inbox->is_ending(); }
     bool has_work() const;
-    void run_tasks();
     void take_notices();
-    bool run_message();
-    bool look_at(ScriptPort &port);
+    // Whether that was a task; a message that is to be fired comes to the value.
+    bool run_task(MutableHandleValue message);
+    bool look_at(ScriptPort &port, MutableHandleValue message);
     void queue(ScriptPort &port);
-    void deliver(ScriptPort &port, varukoni::Message message);
-    bool deliver_broadcast();
-    void fire_message(HandleObject target, bool is_read, HandleValue data, HandleValue ports,
-                      bool is_broadcast);
+    void deliver(ScriptPort &port, varukoni::Message taken, MutableHandleValue message);
+    bool deliver_broadcast(MutableHandleValue message);
+    void arrive(HandleObject target, bool is_read, HandleValue data, HandleValue ports,
+                bool is_broadcast, MutableHandleValue message);
     varukoni::Posted hand_over(ScriptPort &port, varukoni::Message &message);
 };
 }  // namespace runtime

@@ -9,6 +9,7 @@ void finalize_member(JS::GCContext *, JSObject *object) {
     if (member != nullptr) member->agent->leave(*member);
     delete member;
 }
+
 const JSClassOps member_ops = {nullptr, nullptr, nullptr, nullptr, nullptr, nullptr,
                                finalize_member, nullptr, nullptr, nullptr};
 const js::ClassExtension member_extension = {moved<BroadcastMember>};
@@ -40,6 +41,7 @@ bool BroadcastGroups::post(const BroadcastMember &from, std::shared_ptr<const Pa
     }
     return has_memory;
 }
+
 JSObject *Agent::join(HandleObject prototype, std::u16string group) {
     auto member = std::make_unique<BroadcastMember>();
     if (!take_ends(1, member->end)) return nullptr;
@@ -81,22 +83,23 @@ void Agent::listen(BroadcastMember &member, bool is_listened) {
     member.is_listened = is_listened && members.count(member.id) > 0;
     listened_channels += member.is_listened;
 }
-bool Agent::deliver_broadcast() {
-    const Broadcast &message = *broadcast;
-    if (next_target == message.targets.size()) {
+
+bool Agent::deliver_broadcast(MutableHandleValue message) {
+    const Broadcast &cast = *broadcast;
+    if (next_target == cast.targets.size()) {
         broadcast.reset();
         return false;
     }
-    const auto &[channel, number] = message.targets[next_target++];
+    const auto &[channel, number] = cast.targets[next_target++];
     auto found = members.find(channel);
     if (found == members.end()) return true;
     const BroadcastMember &to = *found->second;
     if (log != nullptr)
-        log->write(hublog_got, to.end, message.sender, number, {}, message.parcel->text());
+        log->write(hublog_got, to.end, cast.sender, number, {}, cast.parcel->text());
     RootedObject object(context, to.object);
     RootedValue value(context), ports(context);
-    const bool is_read = read(*message.parcel, nullptr, &value, &ports);
-    fire_message(object, is_read, value, ports, true);
+    const bool is_read = read(*cast.parcel, nullptr, &value, &ports);
+    arrive(object, is_read, value, ports, true, message);
     return true;
 }
 }  // namespace runtime
