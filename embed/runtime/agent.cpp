@@ -94,9 +94,8 @@ void Agent::end() {
     }
     std::lock_guard<std::mutex> held(program.broadcasts.lock);
     broadcasts_to = varukoni::Port();
-    for (auto *kept : {&global, &hooks, &port_prototype, &event_prototype, &stamped_port,
-                       &stamped_event})
-        kept->reset();
+    for (auto *kept : {&global, &hooks, &port_prototype, &stamped_port}) kept->reset();
+    arrived.reset();
 }
 
 Agent::~Agent() {
@@ -136,15 +135,15 @@ void Agent::checkpoint() {
 }
 
 // Tasks: a timer that is due, and a message of the port that has waited longest, in turn.
-void Agent::next(MutableHandleValue message) {
+void Agent::next(MutableHandleValue target) {
     checkpoint();
     while (!is_over()) {
         take_notices();
         const bool is_due = timer && *timer <= Clock::now();
         if (is_due) call("timers", nullptr);
         if (is_over()) return;
-        const bool is_task = run_task(message);
-        if (message.isObject()) return;
+        const bool is_task = run_task(target);
+        if (target.isObject()) return;
         if (is_task || is_due) continue;
         if (!has_work()) return;
         inbox->sleep(timer);
@@ -169,14 +168,14 @@ void Agent::take_notices() {
     notices.clear();
 }
 
-bool Agent::run_task(MutableHandleValue message) {
-    if (broadcast && deliver_broadcast(message)) return true;
+bool Agent::run_task(MutableHandleValue target) {
+    if (broadcast && deliver_broadcast(target)) return true;
     while (!ready.empty()) {
         auto found = ports.find(ready.front());
         ready.pop_front();
         if (found == ports.end()) continue;
         found->second->is_queued = false;
-        if (look_at(*found->second, message)) return true;
+        if (look_at(*found->second, target)) return true;
     }
     return false;
 }

@@ -24,7 +24,7 @@ using JS::RootedObject, JS::RootedValue, JS::RootedValueArray;
 class Agent;
 
 // The classes of objects that aren't plain ones. None of them can be cloned.
-extern const JSClass platform_class, port_class, broadcast_class;
+extern const JSClass platform_class, event_class, port_class, broadcast_class;
 inline constexpr std::size_t native_slot = 0;
 inline constexpr std::uint32_t slot_and_finalizer =
     JSCLASS_HAS_RESERVED_SLOTS(1) | JSCLASS_FOREGROUND_FINALIZE;
@@ -80,12 +80,12 @@ struct Parcel final : varukoni::Body {
     const char *bytes() const { return reinterpret_cast<const char *>(this + 1); }
     std::string text() const;
     Ends ends() const;
-    void operator delete(void *at) { ::operator delete(at); }
+    void operator delete(void *at);
 
   private:
     explicit Parcel(std::size_t given) : size(given) {}
-    static void *operator new(size_t own, size_t room) { return ::operator new(own + room); }
-    static void operator delete(void *at, std::size_t) { ::operator delete(at); }
+    static void *operator new(std::size_t own, std::size_t room);
+    static void operator delete(void *at, std::size_t) { operator delete(at); }
 };
 
 // A message to the broadcast channels of one agent that have its name.
@@ -157,9 +157,9 @@ class Agent {
     void checkpoint();
     bool take_ends(std::uint32_t count, std::uint32_t &first);
     bool load(const std::string &path, const std::string &url, bool &is_there);
-    // Runs tasks until one is a message, which the prelude fires; none once nothing is left that
-    // could make a task.
-    void next(MutableHandleValue message);
+    // Runs tasks until one is a message, which the prelude fires, and gives its target, or an array
+    // of that and what isn't as usual; none once nothing is left that could make a task.
+    void next(MutableHandleValue target);
     ScriptPort *port_of(JSObject *object) const {
         return object == global ? inside : behind<ScriptPort>(object);
     }
@@ -194,9 +194,11 @@ class Agent {
     std::optional<Clock::time_point> timer;
     const Clock::time_point began = Clock::now();
     varukoni::Port broadcasts_to;
-    JS::PersistentRootedObject global, hooks, port_prototype, event_prototype;
-    // Objects of the prototypes whose private fields are there.
-    JS::PersistentRootedObject stamped_port, stamped_event;
+    JS::PersistentRootedObject global, hooks, port_prototype;
+    // An object of the prototype whose private field is there.
+    JS::PersistentRootedObject stamped_port;
+    // What the message carries that is to be fired.
+    JS::PersistentRootedValue arrived;
 
   private:
     struct Worker {
@@ -223,14 +225,13 @@ class Agent {
     bool is_over() const { return is_closing || inbox->is_ending(); }
     bool has_work() const;
     void take_notices();
-    // Whether that was a task; a message that is to be fired comes to the value.
-    bool run_task(MutableHandleValue message);
-    bool look_at(ScriptPort &port, MutableHandleValue message);
+    // Whether that was a task. Where it is a message to be fired, that gives its target.
+    bool run_task(MutableHandleValue target);
+    bool look_at(ScriptPort &port, MutableHandleValue target);
     void queue(ScriptPort &port);
-    void deliver(ScriptPort &port, varukoni::Message taken, MutableHandleValue message);
-    bool deliver_broadcast(MutableHandleValue message);
-    void arrive(HandleObject target, bool is_read, HandleValue data, HandleValue ports,
-                bool is_broadcast, MutableHandleValue message);
+    void deliver(ScriptPort &port, varukoni::Message message, MutableHandleValue target);
+    bool deliver_broadcast(MutableHandleValue target);
+    void arrive(const Parcel &parcel, bool is_broadcast, MutableHandleValue target);
     varukoni::Posted hand_over(ScriptPort &port, varukoni::Message &message);
 };
 }  // namespace runtime

@@ -84,22 +84,20 @@ void Agent::listen(BroadcastMember &member, bool is_listened) {
     listened_channels += member.is_listened;
 }
 
-bool Agent::deliver_broadcast(MutableHandleValue message) {
-    const Broadcast &cast = *broadcast;
-    if (next_target == cast.targets.size()) {
+bool Agent::deliver_broadcast(MutableHandleValue target) {
+    const Broadcast &message = *broadcast;
+    if (next_target == message.targets.size()) {
         broadcast.reset();
         return false;
     }
-    const auto &[channel, number] = cast.targets[next_target++];
+    const auto &[channel, number] = message.targets[next_target++];
     auto found = members.find(channel);
     if (found == members.end()) return true;
     const BroadcastMember &to = *found->second;
     if (log != nullptr)
-        log->write(hublog_got, to.end, cast.sender, number, {}, cast.parcel->text());
-    RootedObject object(context, to.object);
-    RootedValue value(context), ports(context);
-    const bool is_read = read(*cast.parcel, nullptr, &value, &ports);
-    arrive(object, is_read, value, ports, true, message);
+        log->write(hublog_got, to.end, message.sender, number, {}, message.parcel->text());
+    target.setObjectOrNull(to.object);
+    arrive(*message.parcel, true, target);
     return true;
 }
 }  // namespace runtime

@@ -115,6 +115,43 @@ const JSStructuredCloneCallbacks callbacks = {
     read_object, write_object, tell_error, nullptr, nullptr, nullptr, nullptr, note_shared_memory,
 };
 
+// Memory for parcels, which the thread that posts them takes in turn. It is freed with its last
+// parcel, by whoever reads that: with a call of the allocator for each, two threads meet there.
+struct Block {
+    static constexpr std::size_t bytes = 16 << 10, most = 1 << 20;
+    std::atomic<std::size_t> owners{most};
+    void leave(std::size_t count) {
+        if (owners.fetch_sub(count, std::memory_order_acq_rel) == count) ::operator delete(this);
+    }
+    static void give_back(void *at) { static_cast<Block **>(at)[-1]->leave(1); }
+};
+
+// The block that a thread takes from.
+struct FilledBlock {
+    Block *block = nullptr;
+    std::size_t used = Block::bytes, parcels = 0;
+    ~FilledBlock() { leave(); }
+    void leave() {
+        if (block != nullptr) block->leave(Block::most - parcels);
+        block = nullptr;
+    }
+    void *take(std::size_t size) {
+        size = (size + sizeof block + alignof(Block) - 1) / alignof(Block) * alignof(Block);
+        if (used + size > Block::bytes) {
+            leave();
+            block = new (::operator new(Block::bytes)) Block;
+            used = sizeof(Block);
+            parcels = 0;
+        }
+        auto **at = reinterpret_cast<Block **>(reinterpret_cast<char *>(block) + used);
+        used += size;
+        parcels++;
+        *at = block;
+        return at + 1;
+    }
+};
+thread_local FilledBlock filled;
+
 // All agents are of one cluster, which may share memory.
 JS::CloneDataPolicy policy() {
     JS::CloneDataPolicy allowed;
@@ -123,6 +160,8 @@ JS::CloneDataPolicy policy() {
     return allowed;
 }
 }  // namespace
+void *Parcel::operator new(std::size_t own, std::size_t room) { return filled.take(own + room); }
+void Parcel::operator delete(void *at) { Block::give_back(at); }
 std::unique_ptr<Parcel> Parcel::of(JSStructuredCloneData &&clone, bool is_small) {
     const std::size_t size = is_small ? clone.Size() : 0;
     std::unique_ptr<Parcel> parcel(new (size) Parcel(size));

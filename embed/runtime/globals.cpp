@@ -186,7 +186,23 @@ constexpr Function script_functions[] = {
         JS::RootedValueVector list(context);
         return agent.list_of(call[1], &list) && agent.clone(call[0], list, call.rval());
     }},
+    // An event, and the state behind an event.
+    {"event", 2, [](auto &, auto *context, auto &call) {
+        RootedObject prototype(context, &call[0].toObject());
+        JSObject *made = JS_NewObjectWithGivenProto(context, &event_class, prototype);
+        if (made != nullptr) JS::SetReservedSlot(made, native_slot, call[1]);
+        return gives(call, made);
+    }},
+    {"eventState", 1, [](auto &agent, auto *, auto &call) {
+        const bool is_event = call[0].isObject() && JS::GetClass(&call[0].toObject()) == &event_class;
+        if (is_event) call.rval().set(JS::GetReservedSlot(&call[0].toObject(), native_slot));
+        return is_event || agent.throw_named("TypeError", "this is no event");
+    }},
     {"next", 0, [](auto &agent, auto *, auto &call) { return agent.next(call.rval()), true; }},
+    {"data", 0, [](auto &agent, auto *, auto &call) {
+        call.rval().set(agent.arrived);
+        return agent.arrived.setUndefined(), true;
+    }},
     {"checkpoint", 0, [](auto &agent, auto *, auto &) { return agent.checkpoint(), true; }},
     // When the first timer ends; undefined where there is none.
     {"wake", 1, [](auto &agent, auto *, auto &call) {
@@ -280,7 +296,7 @@ bool Agent::begin_realm() {
         kept.init(context, &value.toObject());
         return true;
     };
-    return keep("portPrototype", port_prototype) && keep("eventPrototype", event_prototype)
-           && keep("port", stamped_port) && keep("event", stamped_event);
+    arrived.init(context);
+    return keep("portPrototype", port_prototype) && keep("port", stamped_port);
 }
 }  // namespace runtime

@@ -20,9 +20,9 @@ const JSClassOps port_ops = {nullptr, nullptr, nullptr, nullptr, nullptr, nullpt
                              nullptr, nullptr, nullptr};
 const js::ClassExtension port_extension = {moved<ScriptPort>};
 }  // namespace
-// With one slot the engine makes room for two in the object itself, and so for a private field.
-const JSClass platform_class = {"Object", JSCLASS_HAS_RESERVED_SLOTS(1), nullptr, nullptr, nullptr,
-                                nullptr};
+const JSClass platform_class = {"Object", 0, nullptr, nullptr, nullptr, nullptr};
+const JSClass event_class = {"Event", JSCLASS_HAS_RESERVED_SLOTS(1), nullptr, nullptr, nullptr,
+                             nullptr};
 const JSClass port_class = {"MessagePort", slot_and_finalizer, &port_ops, nullptr, &port_extension,
                             nullptr};
 void discard(ScriptPort *port) {
@@ -120,21 +120,21 @@ void Agent::queue(ScriptPort &port) {
 
 // Looks at a port, and delivers what is there. Whether that was a task. Where nothing is there the
 // agent is woken later. A port that isn't started tells its close where no message is before that.
-bool Agent::look_at(ScriptPort &port, MutableHandleValue message) {
+bool Agent::look_at(ScriptPort &port, MutableHandleValue target) {
     if (!port.port.is_open()) return false;
     if (!port.ahead) port.ahead = port.port.take();
     if (port.ahead && !port.is_started) return false;
     if (port.ahead) {
         queue(port);
-        deliver(port, *std::exchange(port.ahead, std::nullopt), message);
+        deliver(port, *std::exchange(port.ahead, std::nullopt), target);
         return true;
     }
     if (port.port.ended()) {
         // The peer is closed, and all that it had posted was delivered.
-        RootedObject target(context, port.object);
-        const bool has_event = port.kind == ScriptPort::Kind::port && target;
+        RootedObject object(context, port.object);
+        const bool has_event = port.kind == ScriptPort::Kind::port && object;
         close(port);
-        if (has_event) call("closed", target);
+        if (has_event) call("closed", object);
         return true;
     }
     const bool sleeps = port.port.arm([to = inbox, id = port.id] {
@@ -144,39 +144,38 @@ bool Agent::look_at(ScriptPort &port, MutableHandleValue message) {
     return false;
 }
 
-void Agent::deliver(ScriptPort &port, varukoni::Message taken, MutableHandleValue message) {
+void Agent::deliver(ScriptPort &port, varukoni::Message message, MutableHandleValue target) {
     if (port.kind == ScriptPort::Kind::road) {
-        broadcast.reset(static_cast<Broadcast *>(taken.body.release()));
+        broadcast.reset(static_cast<Broadcast *>(message.body.release()));
         next_target = 0;
-        deliver_broadcast(message);
+        deliver_broadcast(target);
         return;
     }
-    auto &parcel = static_cast<Parcel &>(*taken.body);
+    auto &parcel = static_cast<Parcel &>(*message.body);
     if (log != nullptr && !parcel.is_error)
         log->write(hublog_got, port.recorded.end, 0, parcel.number, parcel.ends(), parcel.text());
-    RootedObject target(context, port.object);
-    RootedValue value(context), sent(context);
-    const bool is_read = read(parcel, log, &value, &sent);
-    if (!parcel.is_error) return arrive(target, is_read, value, sent, false, message);
-    if (is_read) call("workerError", target, value);
+    target.setObjectOrNull(port.object);
+    if (!parcel.is_error) return arrive(parcel, false, target);
+    RootedValue error(context), ports(context);
+    RootedObject object(context, &target.toObject());
+    target.setUndefined();
+    if (read(parcel, log, &error, &ports)) call("workerError", object, error);
 }
 
-// What the prelude is told of a message, or of one that couldn't be read.
-void Agent::arrive(HandleObject target, bool is_read, HandleValue data, HandleValue sent,
-                   bool is_broadcast, MutableHandleValue message) {
-    if (!is_read) JS_ClearPendingException(context);
-    RootedObject event(
-        context, JS_NewObjectWithGivenProto(context, &platform_class, event_prototype));
-    if (!event || !JS_InitializePropertiesFromCompatibleNativeObject(context, event, stamped_event))
-        return report_pending();
-    RootedValueArray<6> words(context);
-    words[0].setObject(*target);
-    words[1].setObject(*event);
+// Reads a message for its target. Where that fails, or it has ports or is a broadcast, an array tells
+// so beside the target.
+void Agent::arrive(const Parcel &parcel, bool is_broadcast, MutableHandleValue target) {
+    RootedValueArray<4> words(context);
+    const bool is_read = read(parcel, is_broadcast ? nullptr : log, &arrived, words[1]);
+    if (is_read && !is_broadcast && words[1].isUndefined()) return;
+    if (!is_read) {
+        JS_ClearPendingException(context);
+        arrived.setNull();
+    }
+    words[0].set(target);
     words[2].setBoolean(is_read);
-    words[3].set(data);
-    words[4].set(sent);
-    words[5].setBoolean(is_broadcast);
-    message.setObjectOrNull(JS::NewArrayObject(context, words));
-    if (message.isNull()) report_pending();
+    words[3].setBoolean(is_broadcast);
+    target.setObjectOrNull(JS::NewArrayObject(context, words));
+    if (target.isNull()) report_pending();
 }
 }  // namespace runtime

@@ -3,7 +3,7 @@
 (function (native, isWorker, paths, ownUrl, ownName) {
 'use strict';
 const { defineProperty, freeze, getOwnPropertyNames, getOwnPropertyDescriptor } = Object;
-const { apply } = Reflect;
+const { apply } = Reflect, { isArray } = Array;
 const then = Function.prototype.call.bind(Promise.prototype.then), resolved = Promise.resolve();
 const isObject = (it) => typeof it === 'object' && it !== null || typeof it === 'function';
 // Each is compiled by itself, or the engine would see one place for the slots of all classes.
@@ -14,7 +14,8 @@ const slots = () => Function(`return class extends function (object) { return ob
   static set(object, state) { return object.#state = state; }
   static has(object) { return Object(object) === object && #state in object; }
 }`)();
-const [Targets, Events, Exceptions, Channels, Broadcasts, Places] = Array.from('123456', slots);
+const [Targets, Exceptions, Channels, Broadcasts, Places] = Array.from('12345', slots);
+const { event: newEvent, eventState } = native;
 const define = (name, value) =>
   defineProperty(globalThis, name, { value, writable: true, configurable: true });
 const add = (made, members) => {
@@ -85,20 +86,20 @@ class Event {
     const { bubbles, cancelable, composed } = options(init);
     const state = stateOf(`${type}`, false, !!cancelable, null, '', noPorts);
     Object.assign(state, { bubbles: !!bubbles, composed: !!composed, timeStamp: native.now() });
-    return new Events(native.create(new.target.prototype), state);
+    return newEvent(new.target.prototype, state);
   }
-  get timeStamp() { return Events.of(this).timeStamp ??= native.now(); }
-  get currentTarget() { return Events.of(this).isDispatched ? Events.of(this).target : null; }
-  get eventPhase() { return Events.of(this).isDispatched ? 2 : 0; }
-  composedPath() { return Events.of(this).isDispatched ? [Events.of(this).target] : []; }
-  stopPropagation() { Events.of(this).stops ||= 1; }
-  stopImmediatePropagation() { Events.of(this).stops = 2; }
+  get timeStamp() { return eventState(this).timeStamp ??= native.now(); }
+  get currentTarget() { return eventState(this).isDispatched ? eventState(this).target : null; }
+  get eventPhase() { return eventState(this).isDispatched ? 2 : 0; }
+  composedPath() { return eventState(this).isDispatched ? [eventState(this).target] : []; }
+  stopPropagation() { eventState(this).stops ||= 1; }
+  stopImmediatePropagation() { eventState(this).stops = 2; }
   preventDefault() {
-    const state = Events.of(this);
+    const state = eventState(this);
     if (state.cancelable && !state.isPassive) state.defaultPrevented = true;
   }
 }
-reads(Event, Events.of, ['type', 'target', 'bubbles', 'cancelable', 'defaultPrevented', 'composed',
+reads(Event, eventState, ['type', 'target', 'bubbles', 'cancelable', 'defaultPrevented', 'composed',
   'isTrusted']);
 expose(Event, { NONE: 0, CAPTURING_PHASE: 1, AT_TARGET: 2, BUBBLING_PHASE: 3 });
 // A class of events, with what its constructor makes of its options.
@@ -107,11 +108,11 @@ function eventClass(name, count, take, members) {
     constructor(type, init = undefined) {
       needs(arguments, count);
       super(type, init);
-      Object.assign(Events.of(this), take(options(init)));
+      Object.assign(eventState(this), take(options(init)));
     }
   } }[name];
   if (count > 1) defineProperty(made, 'length', { value: count });
-  reads(made, Events.of, members);
+  reads(made, eventState, members);
   expose(made);
   return made;
 }
@@ -175,7 +176,7 @@ class EventTarget {
   }
   dispatchEvent(event) {
     needs(arguments, 1);
-    const object = this ?? globalThis, state = Events.of(event);
+    const object = this ?? globalThis, state = eventState(event);
     if (state.isDispatched) throw new DOMException('it is being dispatched', 'InvalidStateError');
     state.isTrusted = false;
     return fire(object, event, state, false);
@@ -198,6 +199,12 @@ function fire(object, event, state, isTask) {
   state.isDispatched = false;
   state.stops = 0;
   return !state.defaultPrevented;
+}
+// Fires the event of a message whose data the runtime has read, or hasn't.
+function fireMessage(object, ports, isRead, isBroadcast) {
+  const state = stateOf(isRead ? 'message' : 'messageerror', true, false, native.data(),
+    isBroadcast ? 'null' : '', ports ?? noPorts);
+  fire(object, newEvent(MessageEvent.prototype, state), state, true);
 }
 function callListener(object, record, event, state) {
   const { callback } = record;
@@ -316,7 +323,7 @@ function tell(place, text, isMissing = false) {
 }
 function trusted(type, of, made, isCancelable = false) {
   const state = Object.assign(stateOf(type, true, isCancelable, null, '', noPorts), made);
-  return [new Events(native.create(of.prototype), state), state];
+  return [newEvent(of.prototype, state), state];
 }
 let isReporting = false;
 function report(error, place = placeOf(error), text = lineOf(place, 'uncaught', error)) {
@@ -492,10 +499,9 @@ function deserialized(text) {
   return defineProperty(made, 'stack', { value: stack, writable: true, configurable: true });
 }
 return {
-  portPrototype: MessagePort.prototype, eventPrototype: MessageEvent.prototype,
-  // What the runtime makes of these prototypes has the slots of these.
+  // What the runtime makes of this prototype has the slots of this port.
+  portPrototype: MessagePort.prototype,
   port: new Targets(native.create(MessagePort.prototype, true), null),
-  event: new Events(native.create(MessageEvent.prototype), null),
   serialized, deserialized, report, track, rejections, timers: runTimer,
   exception: (name, why) => (name === 'TypeError' ? refuse(why) : new DOMException(why, name)),
   begin() {
@@ -512,14 +518,9 @@ return {
     }
   },
   run() {
-    for (let message = native.next(); message !== undefined; message = native.next()) {
-      const isRead = message[2], ports = message[4];
-      const state = stateOf(isRead ? 'message' : 'messageerror', true, false,
-        isRead ? message[3] : null, message[5] ? 'null' : '',
-        ports === undefined ? noPorts : freeze(ports));
-      Events.set(message[1], state);
-      fire(message[0], message[1], state, true);
-    }
+    for (let to = native.next(); to !== undefined; to = native.next())
+      if (isArray(to)) fireMessage(to[0], freeze(to[1]), to[2], to[3]);
+      else fireMessage(to, undefined, true, false);
   },
   closed(object) { fire(object, ...trusted('close', Event, {}), true); },
   workerError(object, { isMissing, text, ...place }) {
