@@ -25,7 +25,6 @@ void track_rejection(JSContext *context, bool, HandleObject promise,
     Agent::of(context).has_rejections = true;
     if (!Agent::of(context).call("track", words, &result)) JS_ClearPendingException(context);
 }
-
 // Ends the script where another thread has asked for it, and whatever would run then.
 bool is_going_on(JSContext *context) {
     if (!Agent::of(context).inbox->is_ending()) return true;
@@ -104,11 +103,9 @@ Agent::~Agent() {
     if (start_of.creator)
         start_of.creator->put({Notice::Kind::worker_ended, start_of.id_at_creator});
 }
-
 bool Agent::call(const char *hook, const HandleValueArray &words, MutableHandleValue result) {
     return !inbox->is_ending() && JS::Call(context, hooks, hook, words, result);
 }
-
 void Agent::call(const char *hook, JSObject *object, HandleValue more) {
     RootedValueArray<2> words(context);
     RootedValue result(context);
@@ -117,7 +114,6 @@ void Agent::call(const char *hook, JSObject *object, HandleValue more) {
     if (!call(hook, words, &result)) report_pending();
     checkpoint();
 }
-
 void Agent::report_pending() {
     RootedValueArray<1> words(context);
     RootedValue result(context);
@@ -125,7 +121,6 @@ void Agent::report_pending() {
     JS_ClearPendingException(context);
     if (!call("report", words, &result)) JS_ClearPendingException(context);
 }
-
 void Agent::checkpoint() {
     if (!inbox->is_ending()) js::RunJobs(context);
     if (has_rejections && !inbox->is_ending()) {
@@ -133,9 +128,9 @@ void Agent::checkpoint() {
         call("rejections", nullptr);
     }
 }
-
 // Tasks: a timer that is due, and a message of the port that has waited longest, in turn.
 void Agent::next(MutableHandleValue target) {
+    arrived.setUndefined();
     checkpoint();
     while (!is_over()) {
         take_notices();
@@ -149,12 +144,10 @@ void Agent::next(MutableHandleValue target) {
         inbox->sleep(timer);
     }
 }
-
 bool Agent::has_work() const {
     return timer || !workers.empty() || kept_ports > 0 || listened_channels > 0
            || (is_scope_listened && inside->port.is_open());
 }
-
 void Agent::take_notices() {
     inbox->take(notices);
     for (const auto &[kind, id] : notices) {
@@ -179,7 +172,6 @@ bool Agent::run_task(MutableHandleValue target) {
     }
     return false;
 }
-
 // Workers (HTML, 10.2): agents on threads of their own, which the agent that made them waits for.
 JSObject *Agent::start_worker(HandleObject prototype, AgentStart begin) {
     if (!program.recorder.next(begin.log))

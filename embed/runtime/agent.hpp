@@ -24,7 +24,7 @@ using JS::RootedObject, JS::RootedValue, JS::RootedValueArray;
 class Agent;
 
 // The classes of objects that aren't plain ones. None of them can be cloned.
-extern const JSClass platform_class, event_class, port_class, broadcast_class;
+extern const JSClass platform_class, port_class, broadcast_class;
 inline constexpr std::size_t native_slot = 0;
 inline constexpr std::uint32_t slot_and_finalizer =
     JSCLASS_HAS_RESERVED_SLOTS(1) | JSCLASS_FOREGROUND_FINALIZE;
@@ -33,12 +33,10 @@ inline constexpr std::uint32_t slot_and_finalizer =
 template <typename Native> Native *behind(JSObject *object) {
     return JS::GetMaybePtrFromReservedSlot<Native>(object, native_slot);
 }
-
 template <typename Native> std::size_t moved(JSObject *object, JSObject *) {
     if (auto *native = behind<Native>(object)) native->object.unbarrieredSet(object);
     return 0;
 }
-
 // One port of a channel as a script has it: a MessagePort, a Worker, or the scope of a worker; or
 // the road over which an agent hears all of its broadcast channels.
 struct ScriptPort {
@@ -57,15 +55,13 @@ struct ScriptPort {
     bool is_started = false, is_queued = false;
     // The next message, once it was looked for.
     std::optional<varukoni::Message> ahead;
-
     bool keeps_program() const { return is_started && kind <= Kind::worker; }
 };
-
 void set_port(JSObject *object, ScriptPort *port);
 // Closes a port if there is one, and all ports in what nobody read, without a call within a call.
 void discard(ScriptPort *port);
-// What a message carries: the engine's clone of a value, and the ports that nobody has read. A small
-// clone of nothing but bytes stands behind this in its block, since a queue may have many.
+// What a message carries: the engine's clone of a value, and the ports that nobody has read. The
+// bytes of a small clone stand behind this in its block, since a queue may have many.
 struct Parcel final : varukoni::Body {
     // The bytes behind this; none where the clone is a large one.
     const std::size_t size;
@@ -87,7 +83,6 @@ struct Parcel final : varukoni::Body {
     static void *operator new(std::size_t own, std::size_t room);
     static void operator delete(void *at, std::size_t) { operator delete(at); }
 };
-
 // A message to the broadcast channels of one agent that have its name.
 struct Broadcast final : varukoni::Body {
     std::shared_ptr<const Parcel> parcel;
@@ -95,7 +90,6 @@ struct Broadcast final : varukoni::Body {
     // The channels, and in a recording the number of the message at each.
     std::vector<std::pair<std::uint64_t, std::uint64_t>> targets;
 };
-
 // A BroadcastChannel of an agent.
 struct BroadcastMember {
     Agent *agent = nullptr;
@@ -107,7 +101,6 @@ struct BroadcastMember {
     // How many messages each agent has posted there.
     std::map<unsigned, std::uint64_t> posted;
 };
-
 // All broadcast channels of the program by their names, the eldest first. The lock is for these,
 // and for the ports at which messages for the channels of an agent are posted.
 struct BroadcastGroups {
@@ -117,7 +110,6 @@ struct BroadcastGroups {
     // Posts to all channels of the name but the sender. False where memory ran out.
     bool post(const BroadcastMember &from, std::shared_ptr<const Parcel> parcel);
 };
-
 // What all agents of the program share.
 struct Program {
     std::string root;
@@ -126,7 +118,6 @@ struct Program {
     JSRuntime *parent = nullptr;
     std::atomic<bool> has_failed{false};
 };
-
 // What an agent is made of: a window, or a worker, which has a URL and a port to its creator.
 struct AgentStart {
     std::vector<std::string> paths;
@@ -136,7 +127,6 @@ struct AgentStart {
     std::shared_ptr<Inbox> creator;
     std::uint64_t id_at_creator = 0;
 };
-
 // A script and its event loop, on a thread of its own.
 class Agent {
   public:

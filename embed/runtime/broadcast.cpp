@@ -9,7 +9,6 @@ void finalize_member(JS::GCContext *, JSObject *object) {
     if (member != nullptr) member->agent->leave(*member);
     delete member;
 }
-
 const JSClassOps member_ops = {nullptr, nullptr, nullptr, nullptr, nullptr, nullptr,
                                finalize_member, nullptr, nullptr, nullptr};
 const js::ClassExtension member_extension = {moved<BroadcastMember>};
@@ -41,7 +40,6 @@ bool BroadcastGroups::post(const BroadcastMember &from, std::shared_ptr<const Pa
     }
     return has_memory;
 }
-
 JSObject *Agent::join(HandleObject prototype, std::u16string group) {
     auto member = std::make_unique<BroadcastMember>();
     if (!take_ends(1, member->end)) return nullptr;
@@ -64,7 +62,6 @@ JSObject *Agent::join(HandleObject prototype, std::u16string group) {
     JS::SetReservedSlot(object, native_slot, JS::PrivateValue(member.release()));
     return object;
 }
-
 // The channel is closed: it hears nothing more, not even what is under way.
 void Agent::leave(BroadcastMember &member) {
     if (members.erase(member.id) == 0) return;
@@ -76,14 +73,12 @@ void Agent::leave(BroadcastMember &member) {
     all.erase(std::find(all.begin(), all.end(), &member));
     if (all.empty()) program.broadcasts.members.erase(group);
 }
-
 // A channel that somebody listens to is kept, and the program with it, until it is closed.
 void Agent::listen(BroadcastMember &member, bool is_listened) {
     listened_channels -= member.is_listened;
     member.is_listened = is_listened && members.count(member.id) > 0;
     listened_channels += member.is_listened;
 }
-
 bool Agent::deliver_broadcast(MutableHandleValue target) {
     const Broadcast &message = *broadcast;
     if (next_target == message.targets.size()) {

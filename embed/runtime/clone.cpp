@@ -1,9 +1,6 @@
 // What is posted: values as the engine clones them, with the ports that go along (HTML, 2.7).
 #include "agent.hpp"
 
-#include <array>
-#include <cstring>
-
 namespace runtime {
 constexpr char untransferable[] = "something listed can't be transferred";
 constexpr char listed_twice[] = "something is listed twice";
@@ -51,7 +48,6 @@ class Transfer {
             agent.adopt(*port);
         }
     }
-
   private:
     const ScriptPort *const from;
     JS::RootedValueVector objects;
@@ -74,9 +70,9 @@ constexpr std::size_t small_bytes = 2'048, reserve_bytes = 64 << 10;
 // the text that the prelude has for it.
 bool write_object(JSContext *context, JSStructuredCloneWriter *writer, HandleObject object, bool *,
                   void *listed) {
-    if (listed != nullptr)
-        if (const auto place = static_cast<Transfer *>(listed)->find(object))
-            return JS_WriteUint32Pair(writer, port_tag, *place);
+    const auto *ports = static_cast<const Transfer *>(listed);
+    const auto place = ports != nullptr ? ports->find(object) : std::nullopt;
+    if (place) return JS_WriteUint32Pair(writer, port_tag, *place);
     auto &agent = Agent::of(context);
     js::ESClass kind;
     if (!JS::GetBuiltinClass(context, object, &kind)) return false;
@@ -100,7 +96,6 @@ JSObject *read_object(JSContext *context, JSStructuredCloneReader *reader,
     const bool is_made = Agent::of(context).call("deserialized", HandleValueArray(word), &made);
     return is_made ? &made.toObject() : nullptr;
 }
-
 void tell_error(JSContext *context, std::uint32_t error, void *, const char *message) {
     if (error == JS_SCERR_DUP_TRANSFERABLE) message = listed_twice;
     if (error == JS_SCERR_TRANSFERABLE) message = untransferable;
@@ -110,44 +105,32 @@ void tell_error(JSContext *context, std::uint32_t error, void *, const char *mes
 bool note_shared_memory(JSContext *context, bool, void *) {
     return Agent::of(context).has_shared_memory = true;
 }
-
 const JSStructuredCloneCallbacks callbacks = {
     read_object, write_object, tell_error, nullptr, nullptr, nullptr, nullptr, note_shared_memory,
 };
-
-// Memory for parcels, which the thread that posts them takes in turn. It is freed with its last
-// parcel, by whoever reads that: with a call of the allocator for each, two threads meet there.
+// Memory for parcels, which the thread that posts takes in turn; whoever reads the last one frees
+// it. Where each parcel is a call of the allocator, two threads meet there for each message.
 struct Block {
-    static constexpr std::size_t bytes = 16 << 10, most = 1 << 20;
+    static constexpr std::size_t most = 1 << 20;
     std::atomic<std::size_t> owners{most};
+    char room[16 << 10];
     void leave(std::size_t count) {
-        if (owners.fetch_sub(count, std::memory_order_acq_rel) == count) ::operator delete(this);
+        if (owners.fetch_sub(count, std::memory_order_acq_rel) == count) delete this;
     }
-    static void give_back(void *at) { static_cast<Block **>(at)[-1]->leave(1); }
 };
-
-// The block that a thread takes from.
 struct FilledBlock {
-    Block *block = nullptr;
-    std::size_t used = Block::bytes, parcels = 0;
-    ~FilledBlock() { leave(); }
-    void leave() {
-        if (block != nullptr) block->leave(Block::most - parcels);
-        block = nullptr;
-    }
+    Block *block = new Block;
+    std::size_t used = 0, parcels = 0;
+    ~FilledBlock() { block->leave(Block::most - parcels); }
+    // So many bytes behind the address of their block.
     void *take(std::size_t size) {
-        size = (size + sizeof block + alignof(Block) - 1) / alignof(Block) * alignof(Block);
-        if (used + size > Block::bytes) {
-            leave();
-            block = new (::operator new(Block::bytes)) Block;
-            used = sizeof(Block);
-            parcels = 0;
+        size = (size + 2 * sizeof block - 1) / sizeof block * sizeof block;
+        if (used + size > sizeof block->room) {
+            std::exchange(block, new Block)->leave(Block::most - parcels);
+            used = parcels = 0;
         }
-        auto **at = reinterpret_cast<Block **>(reinterpret_cast<char *>(block) + used);
-        used += size;
         parcels++;
-        *at = block;
-        return at + 1;
+        return new (block->room + std::exchange(used, used + size)) Block *(block) + 1;
     }
 };
 thread_local FilledBlock filled;
@@ -161,7 +144,7 @@ JS::CloneDataPolicy policy() {
 }
 }  // namespace
 void *Parcel::operator new(std::size_t own, std::size_t room) { return filled.take(own + room); }
-void Parcel::operator delete(void *at) { Block::give_back(at); }
+void Parcel::operator delete(void *at) { static_cast<Block **>(at)[-1]->leave(1); }
 std::unique_ptr<Parcel> Parcel::of(JSStructuredCloneData &&clone, bool is_small) {
     const std::size_t size = is_small ? clone.Size() : 0;
     std::unique_ptr<Parcel> parcel(new (size) Parcel(size));
@@ -173,14 +156,11 @@ std::unique_ptr<Parcel> Parcel::of(JSStructuredCloneData &&clone, bool is_small)
     }
     return parcel;
 }
-
 std::string Parcel::text() const {
-    std::string all(bytes(), size);
-    if (large)
-        large->ForEachDataChunk([&all](const char *chunk, std::size_t length) {
-            all.append(chunk, length);
-            return true;
-        });
+    if (!large) return {bytes(), size};
+    std::string all(large->Size(), '\0');
+    auto at = large->Start();
+    (void)large->ReadBytes(at, all.data(), all.size());
     return all;
 }
 
@@ -190,7 +170,6 @@ Ends Parcel::ends() const {
         if (port != nullptr) found.push_back(port->recorded.end);
     return found;
 }
-
 // Clones a value, with what is listed. The engine takes 4 KiB for a small clone, so that is copied
 // to a block of its own size, unless it holds shared or transferred memory.
 std::unique_ptr<Parcel> Agent::write(HandleValue value, Transfer *listed) {
@@ -205,7 +184,6 @@ std::unique_ptr<Parcel> Agent::write(HandleValue value, Transfer *listed) {
     const bool is_bytes = !has_shared_memory && others.isUndefined();
     return Parcel::of(std::move(data), is_bytes && data.Size() <= small_bytes);
 }
-
 // Reads a clone, and its ports as an array where it has some.
 bool Agent::read(const Parcel &parcel, AgentLog *moves, MutableHandleValue value,
                  MutableHandleValue ports) {
@@ -226,7 +204,6 @@ bool Agent::read(const Parcel &parcel, AgentLog *moves, MutableHandleValue value
                                   JS_STRUCTURED_CLONE_VERSION, scope, value, policy(), &callbacks,
                                   &objects);
 }
-
 // Posts a message that is written. Where the hub has no memory for it, that of the reserve is given
 // back and it is posted once more.
 varukoni::Posted Agent::hand_over(ScriptPort &port, varukoni::Message &message) {
@@ -243,7 +220,6 @@ varukoni::Posted Agent::hand_over(ScriptPort &port, varukoni::Message &message) 
     else if (log != nullptr) log->take_back();
     return answer;
 }
-
 // Posts at the peer of the port of this object, with the ports of a list. What is posted at nobody,
 // or at a port that it carries, is lost with them.
 bool Agent::post(HandleObject object, HandleValue value, const HandleValueArray &list) {
@@ -270,7 +246,6 @@ bool Agent::post(HandleObject object, HandleValue value, const HandleValueArray 
         for (std::uint32_t end : parcel.ends()) log->closed(end);
     return true;
 }
-
 // Clones a value for this agent. The ports of the list come to new objects.
 bool Agent::clone(HandleValue value, const HandleValueArray &list, MutableHandleValue result) {
     Transfer transfer(context, nullptr);

@@ -17,7 +17,6 @@ struct Function {
     unsigned words;
     bool (*run)(Agent &, JSContext *, const JS::CallArgs &);
 };
-
 template <const Function *functions, std::size_t at>
 bool native(JSContext *context, unsigned count, JS::Value *words) {
     JS::CallArgs call = JS::CallArgsFromVp(count, words);
@@ -30,33 +29,27 @@ bool native(JSContext *context, unsigned count, JS::Value *words) {
         return JS_ReportOutOfMemory(context), false;
     }
 }
-
 template <const Function *functions, std::size_t... at>
 bool define(JSContext *context, HandleObject object, std::index_sequence<at...>) {
     return (... && JS_DefineFunction(context, object, functions[at].name, native<functions, at>,
                                      functions[at].words, JSPROP_ENUMERATE));
 }
-
 bool gives(const JS::CallArgs &call, JSObject *object) {
     if (object != nullptr) call.rval().setObject(*object);
     return object != nullptr;
 }
-
 std::string text_of(JSContext *context, HandleValue value) {
     JS::RootedString text(context, value.toString());
     JS::UniqueChars chars = JS_EncodeStringToUTF8(context, text);
     JS_ClearPendingException(context);
     return chars ? chars.get() : "";
 }
-
 bool set_text(JSContext *context, MutableHandleValue to, const std::string &text) {
     JSString *made = JS_NewStringCopyUTF8N(context, JS::UTF8Chars(text.data(), text.size()));
     if (made != nullptr) to.setString(made);
     return made != nullptr;
 }
-
 BroadcastMember &member_of(HandleValue it) { return *behind<BroadcastMember>(&it.toObject()); }
-
 // The object whose port a method is called on, or a TypeError.
 bool port_object(Agent &agent, const JS::CallArgs &call, JS::MutableHandleObject found) {
     found.set(call.thisv().isObject() ? &call.thisv().toObject() : nullptr);
@@ -65,7 +58,6 @@ bool port_object(Agent &agent, const JS::CallArgs &call, JS::MutableHandleObject
         return true;
     return agent.throw_named("TypeError", "this is no port");
 }
-
 template <void (Agent::*act)(ScriptPort &)>
 bool with_port(Agent &agent, JSContext *context, const JS::CallArgs &call) {
     RootedObject object(context);
@@ -73,7 +65,6 @@ bool with_port(Agent &agent, JSContext *context, const JS::CallArgs &call) {
     if (ScriptPort *port = agent.port_of(object)) (agent.*act)(*port);
     return true;
 }
-
 // The second word of postMessage: a list of objects, or options that have one.
 bool transfer_list(Agent &agent, JSContext *context, HandleValue word,
                    JS::MutableHandleValueVector list) {
@@ -85,7 +76,6 @@ bool transfer_list(Agent &agent, JSContext *context, HandleValue word,
     if (!given.isNullOrUndefined()) return agent.list_of(word, list);
     return JS_GetProperty(context, object, "transfer", &given) && agent.list_of(given, list);
 }
-
 bool post_message(Agent &agent, JSContext *context, const JS::CallArgs &call) {
     RootedObject object(context);
     JS::RootedValueVector list(context);
@@ -93,7 +83,6 @@ bool post_message(Agent &agent, JSContext *context, const JS::CallArgs &call) {
            && transfer_list(agent, context, call.get(1), &list)
            && agent.post(object, call[0], list);
 }
-
 bool open_channel(Agent &agent, JSContext *context, const JS::CallArgs &call) {
     auto [left, right] = agent.open_channel(ScriptPort::Kind::port, ScriptPort::Kind::port);
     RootedValueArray<2> ports(context);
@@ -114,14 +103,12 @@ bool join_channel(Agent &agent, JSContext *context, const JS::CallArgs &call) {
     return JS_CopyStringChars(context, {name.data(), name.size()}, text)
            && gives(call, agent.join(prototype, std::move(name)));
 }
-
 bool post_channel(Agent &agent, JSContext *context, const JS::CallArgs &call) {
     auto parcel = agent.write(call[1]);
     if (!parcel) return false;
     if (agent.program.broadcasts.post(member_of(call[0]), std::move(parcel))) return true;
     return JS_ReportOutOfMemory(context), false;
 }
-
 bool start_worker(Agent &agent, JSContext *context, const JS::CallArgs &call) {
     RootedObject prototype(context, &call[0].toObject());
     AgentStart begin;
@@ -130,7 +117,6 @@ bool start_worker(Agent &agent, JSContext *context, const JS::CallArgs &call) {
     begin.name = text_of(context, call[3]);
     return gives(call, agent.start_worker(prototype, std::move(begin)));
 }
-
 // Posts an error that nobody has handled to the creator of this worker.
 bool tell_creator(Agent &agent, JSContext *, const JS::CallArgs &call) {
     auto parcel = agent.write(call[0]);
@@ -140,13 +126,11 @@ bool tell_creator(Agent &agent, JSContext *, const JS::CallArgs &call) {
     if (port.is_open()) port.post(varukoni::Message(std::move(parcel)));
     return true;
 }
-
 bool print(Agent &, JSContext *context, const JS::CallArgs &call) {
     const std::string line = text_of(context, call[1]) + "\n";
     std::fwrite(line.data(), 1, line.size(), call[0].toBoolean() ? stderr : stdout);
     return true;
 }
-
 // Evaluates the file of a path, and tells whether it is there.
 bool load(Agent &agent, JSContext *context, const JS::CallArgs &call) {
     bool is_there = false;
@@ -154,13 +138,11 @@ bool load(Agent &agent, JSContext *context, const JS::CallArgs &call) {
     call.rval().setBoolean(is_there);
     return true;
 }
-
 // What a MessagePort has, and in part a Worker and the scope of a worker.
 constexpr Function port_functions[] = {
     {"postMessage", 1, post_message},
     {"start", 0, with_port<&Agent::start>}, {"close", 0, with_port<&Agent::close>},
 };
-
 constexpr Function script_functions[] = {
     {"openChannel", 0, open_channel}, {"startWorker", 4, start_worker},
     {"joinChannel", 2, join_channel}, {"postChannel", 2, post_channel},
@@ -173,10 +155,13 @@ constexpr Function script_functions[] = {
     }},
     {"terminate", 0, with_port<&Agent::terminate>},
     {"fail", 0, [](auto &agent, auto *, auto &) { return agent.program.has_failed = true; }},
+    // An object of a prototype, with the state of an event, or a port's.
     {"create", 1, [](auto &, auto *context, auto &call) {
-        RootedObject prototype(context, call[0].toObjectOrNull());
-        const JSClass &made = call.get(1).isUndefined() ? platform_class : port_class;
-        return gives(call, JS_NewObjectWithGivenProto(context, &made, prototype));
+        RootedObject prototype(context, &call[0].toObject());
+        const JSClass &made_class = call.get(2).isUndefined() ? platform_class : port_class;
+        JSObject *made = JS_NewObjectWithGivenProto(context, &made_class, prototype);
+        if (made != nullptr) JS::SetReservedSlot(made, native_slot, call.get(1));
+        return gives(call, made);
     }},
     {"now", 0, [](auto &agent, auto *, auto &call) {
         const Milliseconds time = Clock::now() - agent.began;
@@ -186,22 +171,16 @@ constexpr Function script_functions[] = {
         JS::RootedValueVector list(context);
         return agent.list_of(call[1], &list) && agent.clone(call[0], list, call.rval());
     }},
-    // An event, and the state behind an event.
-    {"event", 2, [](auto &, auto *context, auto &call) {
-        RootedObject prototype(context, &call[0].toObject());
-        JSObject *made = JS_NewObjectWithGivenProto(context, &event_class, prototype);
-        if (made != nullptr) JS::SetReservedSlot(made, native_slot, call[1]);
-        return gives(call, made);
-    }},
-    {"eventState", 1, [](auto &agent, auto *, auto &call) {
-        const bool is_event = call[0].isObject() && JS::GetClass(&call[0].toObject()) == &event_class;
-        if (is_event) call.rval().set(JS::GetReservedSlot(&call[0].toObject(), native_slot));
-        return is_event || agent.throw_named("TypeError", "this is no event");
+    // The state of an event.
+    {"stateOf", 1, [](auto &agent, auto *, auto &call) {
+        JSObject *object = call[0].isObject() ? &call[0].toObject() : nullptr;
+        if (object != nullptr && JS::GetClass(object) == &platform_class)
+            call.rval().set(JS::GetReservedSlot(object, native_slot));
+        return call.rval().isObject() || agent.throw_named("TypeError", "this is no event");
     }},
     {"next", 0, [](auto &agent, auto *, auto &call) { return agent.next(call.rval()), true; }},
     {"data", 0, [](auto &agent, auto *, auto &call) {
-        call.rval().set(agent.arrived);
-        return agent.arrived.setUndefined(), true;
+        return call.rval().set(agent.arrived), true;
     }},
     {"checkpoint", 0, [](auto &agent, auto *, auto &) { return agent.checkpoint(), true; }},
     // When the first timer ends; undefined where there is none.
@@ -227,7 +206,6 @@ bool Agent::throw_named(const char *name, const char *message) {
         JS_SetPendingException(context, made);
     return false;
 }
-
 // The objects of a value that has an iterator; undefined has none.
 bool Agent::list_of(HandleValue given, JS::MutableHandleValueVector list) {
     RootedValue next(context);
@@ -242,7 +220,6 @@ bool Agent::list_of(HandleValue given, JS::MutableHandleValueVector list) {
         if (!list.append(next)) return false;
     }
 }
-
 bool Agent::load(const std::string &path, const std::string &url, bool &is_there) {
     std::ifstream file(program.root + path, std::ios::binary);
     std::ostringstream content;
@@ -262,7 +239,6 @@ bool Agent::load(const std::string &path, const std::string &url, bool &is_there
     RootedValue result(context);
     return JS::Evaluate(context, options, source, &result);
 }
-
 bool Agent::begin_realm() {
     RootedObject given(context, JS_NewPlainObject(context));
     RootedObject port(context, JS_NewPlainObject(context));

@@ -29,7 +29,6 @@ std::string folder_of(const std::string &word) {
     const std::string path = files::canonical(word).string();
     return path == "/" ? "" : path;
 }
-
 std::string path_of(const std::string &file, const std::string &root) {
     std::error_code error;
     const std::string path = files::absolute(file, error).lexically_normal().string();

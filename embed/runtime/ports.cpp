@@ -15,14 +15,12 @@ void finalize_port(JS::GCContext *, JSObject *object) {
     port->agent->release(*port);
     discard(port);
 }
-
 const JSClassOps port_ops = {nullptr, nullptr, nullptr, nullptr, nullptr, nullptr, finalize_port,
                              nullptr, nullptr, nullptr};
 const js::ClassExtension port_extension = {moved<ScriptPort>};
 }  // namespace
-const JSClass platform_class = {"Object", 0, nullptr, nullptr, nullptr, nullptr};
-const JSClass event_class = {"Event", JSCLASS_HAS_RESERVED_SLOTS(1), nullptr, nullptr, nullptr,
-                             nullptr};
+const JSClass platform_class = {"Object", JSCLASS_HAS_RESERVED_SLOTS(1), nullptr, nullptr, nullptr,
+                                nullptr};
 const JSClass port_class = {"MessagePort", slot_and_finalizer, &port_ops, nullptr, &port_extension,
                             nullptr};
 void discard(ScriptPort *port) {
@@ -38,7 +36,6 @@ void discard(ScriptPort *port) {
     }
     later = nullptr;
 }
-
 // The collector is told of the memory behind an object, to be as eager as that wants.
 void set_port(JSObject *object, ScriptPort *port) {
     if (behind<ScriptPort>(object) != nullptr)
@@ -47,7 +44,6 @@ void set_port(JSObject *object, ScriptPort *port) {
                         port != nullptr ? JS::PrivateValue(port) : JS::UndefinedValue());
     if (port != nullptr) JS::AddAssociatedMemory(object, port_bytes, JS::MemoryUse::Embedding1);
 }
-
 // A new object for a port, which is this agent's then. None where memory ran out.
 JSObject *Agent::object_of(ScriptPort *port, HandleObject prototype) {
     RootedObject object(context, JS_NewObjectWithGivenProto(context, &port_class, prototype));
@@ -66,7 +62,6 @@ bool Agent::take_ends(std::uint32_t count, std::uint32_t &first) {
     if (program.recorder.next(count, first)) return true;
     return throw_named("QuotaExceededError", "a recording has at most 65,536 ends"), false;
 }
-
 // A channel for a script. None where no end of a recording is left for it.
 Agent::Channel Agent::open_channel(ScriptPort::Kind left, ScriptPort::Kind right) {
     static std::atomic<std::uint64_t> channels{0};
@@ -78,7 +73,6 @@ Agent::Channel Agent::open_channel(ScriptPort::Kind left, ScriptPort::Kind right
     return {std::make_unique<ScriptPort>(left, std::move(one), number, first),
             std::make_unique<ScriptPort>(right, std::move(other), number, second)};
 }
-
 void Agent::adopt(ScriptPort &port) {
     port.agent = this;
     port.id = ++last_id;
@@ -86,7 +80,6 @@ void Agent::adopt(ScriptPort &port) {
     kept_ports += port.keeps_program();
     queue(port);
 }
-
 // The port leaves the agent, and nobody is woken for it.
 void Agent::release(ScriptPort &port) {
     kept_ports -= port.keeps_program();
@@ -96,14 +89,12 @@ void Agent::release(ScriptPort &port) {
     port.agent = nullptr;
     port.is_queued = false;
 }
-
 void Agent::start(ScriptPort &port) {
     if (port.is_started || !port.port.is_open()) return;
     port.is_started = true;
     kept_ports += port.keeps_program();
     queue(port);
 }
-
 void Agent::close(ScriptPort &port) {
     if (!port.port.is_open()) return;
     if (log != nullptr && port.kind != ScriptPort::Kind::road) log->closed(port.recorded.end);
@@ -112,12 +103,10 @@ void Agent::close(ScriptPort &port) {
     port.ahead.reset();
     port.port = varukoni::Port();
 }
-
 void Agent::queue(ScriptPort &port) {
     if (!port.is_queued) ready.push_back(port.id);
     port.is_queued = true;
 }
-
 // Looks at a port, and delivers what is there. Whether that was a task. Where nothing is there the
 // agent is woken later. A port that isn't started tells its close where no message is before that.
 bool Agent::look_at(ScriptPort &port, MutableHandleValue target) {
@@ -161,9 +150,8 @@ void Agent::deliver(ScriptPort &port, varukoni::Message message, MutableHandleVa
     target.setUndefined();
     if (read(parcel, log, &error, &ports)) call("workerError", object, error);
 }
-
-// Reads a message for its target. Where that fails, or it has ports or is a broadcast, an array tells
-// so beside the target.
+// Reads a message for its target. Where that fails, or it has ports, or is a broadcast, an array
+// tells so beside the target.
 void Agent::arrive(const Parcel &parcel, bool is_broadcast, MutableHandleValue target) {
     RootedValueArray<4> words(context);
     const bool is_read = read(parcel, is_broadcast ? nullptr : log, &arrived, words[1]);

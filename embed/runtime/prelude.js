@@ -15,7 +15,7 @@ const slots = () => Function(`return class extends function (object) { return ob
   static has(object) { return Object(object) === object && #state in object; }
 }`)();
 const [Targets, Exceptions, Channels, Broadcasts, Places] = Array.from('12345', slots);
-const { event: newEvent, eventState } = native;
+const { stateOf: eventState } = native;
 const define = (name, value) =>
   defineProperty(globalThis, name, { value, writable: true, configurable: true });
 const add = (made, members) => {
@@ -86,7 +86,7 @@ class Event {
     const { bubbles, cancelable, composed } = options(init);
     const state = stateOf(`${type}`, false, !!cancelable, null, '', noPorts);
     Object.assign(state, { bubbles: !!bubbles, composed: !!composed, timeStamp: native.now() });
-    return newEvent(new.target.prototype, state);
+    return native.create(new.target.prototype, state);
   }
   get timeStamp() { return eventState(this).timeStamp ??= native.now(); }
   get currentTarget() { return eventState(this).isDispatched ? eventState(this).target : null; }
@@ -199,12 +199,6 @@ function fire(object, event, state, isTask) {
   state.isDispatched = false;
   state.stops = 0;
   return !state.defaultPrevented;
-}
-// Fires the event of a message whose data the runtime has read, or hasn't.
-function fireMessage(object, ports, isRead, isBroadcast) {
-  const state = stateOf(isRead ? 'message' : 'messageerror', true, false, native.data(),
-    isBroadcast ? 'null' : '', ports ?? noPorts);
-  fire(object, newEvent(MessageEvent.prototype, state), state, true);
 }
 function callListener(object, record, event, state) {
   const { callback } = record;
@@ -323,7 +317,7 @@ function tell(place, text, isMissing = false) {
 }
 function trusted(type, of, made, isCancelable = false) {
   const state = Object.assign(stateOf(type, true, isCancelable, null, '', noPorts), made);
-  return [newEvent(of.prototype, state), state];
+  return [native.create(of.prototype, state), state];
 }
 let isReporting = false;
 function report(error, place = placeOf(error), text = lineOf(place, 'uncaught', error)) {
@@ -501,7 +495,7 @@ function deserialized(text) {
 return {
   // What the runtime makes of this prototype has the slots of this port.
   portPrototype: MessagePort.prototype,
-  port: new Targets(native.create(MessagePort.prototype, true), null),
+  port: new Targets(native.create(MessagePort.prototype, undefined, true), null),
   serialized, deserialized, report, track, rejections, timers: runTimer,
   exception: (name, why) => (name === 'TypeError' ? refuse(why) : new DOMException(why, name)),
   begin() {
@@ -518,9 +512,13 @@ return {
     }
   },
   run() {
-    for (let to = native.next(); to !== undefined; to = native.next())
-      if (isArray(to)) fireMessage(to[0], freeze(to[1]), to[2], to[3]);
-      else fireMessage(to, undefined, true, false);
+    for (let to = native.next(); to !== undefined; to = native.next()) {
+      const isPlain = !isArray(to), isRead = isPlain || to[2];
+      const state = stateOf(isRead ? 'message' : 'messageerror', true, false, native.data(),
+        !isPlain && to[3] ? 'null' : '', isPlain ? noPorts : freeze(to[1]) ?? noPorts);
+      const event = native.create(MessageEvent.prototype, state);
+      fire(isPlain ? to : to[0], event, state, true);
+    }
   },
   closed(object) { fire(object, ...trusted('close', Event, {}), true); },
   workerError(object, { isMissing, text, ...place }) {

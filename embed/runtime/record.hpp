@@ -17,7 +17,6 @@ struct RecordedEnd {
     std::uint32_t end = 0, peer = 0, moves = 0;
     std::uint64_t posted = 0;
 };
-
 using Ends = std::vector<std::uint32_t>;
 
 // The log of one agent. Where it can't be written the program ends: what is there is no recording.
