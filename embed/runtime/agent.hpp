@@ -219,7 +219,7 @@ class Agent {
     bool run_task(MutableHandleValue target);
     bool look_at(ScriptPort &port, MutableHandleValue target);
     void queue(ScriptPort &port);
-    void deliver(ScriptPort &port, varukoni::Message message, MutableHandleValue target);
+    void deliver(ScriptPort &port, varukoni::Message &message, MutableHandleValue target);
     bool deliver_broadcast(MutableHandleValue target);
     void arrive(const Parcel &parcel, bool is_broadcast, MutableHandleValue target);
     varukoni::Posted hand_over(ScriptPort &port, varukoni::Message &message);

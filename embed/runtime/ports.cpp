@@ -111,11 +111,11 @@ void Agent::queue(ScriptPort &port) {
 // agent is woken later. A port that isn't started tells its close where no message is before that.
 bool Agent::look_at(ScriptPort &port, MutableHandleValue target) {
     if (!port.port.is_open()) return false;
-    if (!port.ahead) port.ahead = port.port.take();
-    if (port.ahead && !port.is_started) return false;
-    if (port.ahead) {
+    auto message = port.ahead ? std::exchange(port.ahead, std::nullopt) : port.port.take();
+    if (message && !port.is_started) return port.ahead = std::move(message), false;
+    if (message) {
         queue(port);
-        deliver(port, *std::exchange(port.ahead, std::nullopt), target);
+        deliver(port, *message, target);
         return true;
     }
     if (port.port.ended()) {
@@ -133,7 +133,7 @@ bool Agent::look_at(ScriptPort &port, MutableHandleValue target) {
     return false;
 }
 
-void Agent::deliver(ScriptPort &port, varukoni::Message message, MutableHandleValue target) {
+void Agent::deliver(ScriptPort &port, varukoni::Message &message, MutableHandleValue target) {
     if (port.kind == ScriptPort::Kind::road) {
         broadcast.reset(static_cast<Broadcast *>(message.body.release()));
         next_target = 0;
