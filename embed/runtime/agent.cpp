@@ -25,7 +25,6 @@ void track_rejection(JSContext *context, bool, HandleObject promise,
     Agent::of(context).has_rejections = true;
     if (!Agent::of(context).call("track", words, &result)) JS_ClearPendingException(context);
 }
-
 // Ends the script where another thread has asked for it, and whatever would run then.
 bool is_going_on(JSContext *context) {
     if (!Agent::of(context).inbox->is_ending()) return true;
@@ -40,7 +39,9 @@ void Agent::run() {
         JSAutoRealm realm(context, global);
         call("begin", nullptr);
         if (inside != nullptr) start(*inside);
-        run_tasks();
+        RootedValue result(context);
+        while (!call("run", JS::HandleValueArray::empty(), &result) && !is_over())
+            report_pending();
     } else if (!inbox->is_ending()) {
         std::fputs("varukoni-js: the engine can't be started\n", stderr);
         program.has_failed = true;
@@ -92,8 +93,8 @@ void Agent::end() {
     }
     std::lock_guard<std::mutex> held(program.broadcasts.lock);
     broadcasts_to = varukoni::Port();
-    for (auto *kept : {&global, &hooks, &port_prototype, &event_prototype, &message_hook})
-        kept->reset();
+    for (auto *kept : {&global, &hooks, &port_prototype, &stamped_port}) kept->reset();
+    arrived.reset();
 }
 
 Agent::~Agent() {
@@ -127,15 +128,19 @@ void Agent::checkpoint() {
         call("rejections", nullptr);
     }
 }
-
 // Tasks: a timer that is due, and a message of the port that has waited longest, in turn.
-void Agent::run_tasks() {
+void Agent::next(MutableHandleValue target) {
+    arrived.setUndefined();
+    checkpoint();
     while (!is_over()) {
         take_notices();
         const bool is_due = timer && *timer <= Clock::now();
         if (is_due) call("timers", nullptr);
-        if (is_over() || run_message() || is_due) continue;
-        if (!has_work()) break;
+        if (is_over()) return;
+        const bool is_task = run_task(target);
+        if (target.isObject()) return;
+        if (is_task || is_due) continue;
+        if (!has_work()) return;
         inbox->sleep(timer);
     }
 }
@@ -156,18 +161,17 @@ void Agent::take_notices() {
     notices.clear();
 }
 
-bool Agent::run_message() {
-    if (broadcast && deliver_broadcast()) return true;
+bool Agent::run_task(MutableHandleValue target) {
+    if (broadcast && deliver_broadcast(target)) return true;
     while (!ready.empty()) {
         auto found = ports.find(ready.front());
         ready.pop_front();
         if (found == ports.end()) continue;
         found->second->is_queued = false;
-        if (look_at(*found->second)) return true;
+        if (look_at(*found->second, target)) return true;
     }
     return false;
 }
-
 // Workers (HTML, 10.2): agents on threads of their own, which the agent that made them waits for.
 JSObject *Agent::start_worker(HandleObject prototype, AgentStart begin) {
     if (!program.recorder.next(begin.log))

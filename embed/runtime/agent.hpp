@@ -8,6 +8,8 @@
 
 #include <js/Array.h>
 #include <js/CompilationAndEvaluation.h>
+#include <js/ForOfIterator.h>
+#include <js/PropertyDescriptor.h>
 #include <js/SourceText.h>
 #include <js/StructuredClone.h>
 #include <jsfriendapi.h>
@@ -35,7 +37,6 @@ template <typename Native> std::size_t moved(JSObject *object, JSObject *) {
     if (auto *native = behind<Native>(object)) native->object.unbarrieredSet(object);
     return 0;
 }
-
 // One port of a channel as a script has it: a MessagePort, a Worker, or the scope of a worker; or
 // the road over which an agent hears all of its broadcast channels.
 struct ScriptPort {
@@ -54,41 +55,34 @@ struct ScriptPort {
     bool is_started = false, is_queued = false;
     // The next message, once it was looked for.
     std::optional<varukoni::Message> ahead;
-
     bool keeps_program() const { return is_started && kind <= Kind::worker; }
 };
 void set_port(JSObject *object, ScriptPort *port);
-// Closes a port, and all ports in what nobody read, without a call within a call.
+// Closes a port if there is one, and all ports in what nobody read, without a call within a call.
 void discard(ScriptPort *port);
-
-// What a message carries: a cloned value with its ports. A small clone with nothing but bytes is a
-// part of this, since a queue may have many.
+// What a message carries: the engine's clone of a value, and the ports that nobody has read. The
+// bytes of a small clone stand behind this in its block, since a queue may have many.
 struct Parcel final : varukoni::Body {
-    struct Rest {
-        JSStructuredCloneData data;
-        Ends ends;
-    };
-    std::unique_ptr<Rest> rest;
+    // The bytes behind this; none where the clone is a large one.
+    const std::size_t size;
+    std::unique_ptr<const JSStructuredCloneData> large;
+    mutable std::vector<ScriptPort *> ports;
     // In a recording: its number on its line.
     std::uint64_t number = 0;
-    const std::size_t size;
     // It tells of an error that nobody has handled in the worker that posts it.
     bool is_error = false;
-    static std::unique_ptr<Parcel> of(std::size_t size) {
-        return std::unique_ptr<Parcel>(new (size) Parcel(size));
-    }
-    char *bytes() { return reinterpret_cast<char *>(this + 1); }
+    static std::unique_ptr<Parcel> of(JSStructuredCloneData &&clone, bool is_small);
+    ~Parcel() { for (ScriptPort *port : ports) discard(port); }
     const char *bytes() const { return reinterpret_cast<const char *>(this + 1); }
     std::string text() const;
-    Ends ends() const { return rest ? rest->ends : Ends(); }
-    void operator delete(void *at) { ::operator delete(at); }
+    Ends ends() const;
+    void operator delete(void *at);
 
   private:
     explicit Parcel(std::size_t given) : size(given) {}
-    static void *operator new(size_t own, size_t room) { return ::operator new(own + room); }
-    static void operator delete(void *at, std::size_t) { ::operator delete(at); }
+    static void *operator new(std::size_t own, std::size_t room);
+    static void operator delete(void *at, std::size_t) { operator delete(at); }
 };
-
 // A message to the broadcast channels of one agent that have its name.
 struct Broadcast final : varukoni::Body {
     std::shared_ptr<const Parcel> parcel;
@@ -96,7 +90,6 @@ struct Broadcast final : varukoni::Body {
     // The channels, and in a recording the number of the message at each.
     std::vector<std::pair<std::uint64_t, std::uint64_t>> targets;
 };
-
 // A BroadcastChannel of an agent.
 struct BroadcastMember {
     Agent *agent = nullptr;
@@ -108,7 +101,6 @@ struct BroadcastMember {
     // How many messages each agent has posted there.
     std::map<unsigned, std::uint64_t> posted;
 };
-
 // All broadcast channels of the program by their names, the eldest first. The lock is for these,
 // and for the ports at which messages for the channels of an agent are posted.
 struct BroadcastGroups {
@@ -118,7 +110,6 @@ struct BroadcastGroups {
     // Posts to all channels of the name but the sender. False where memory ran out.
     bool post(const BroadcastMember &from, std::shared_ptr<const Parcel> parcel);
 };
-
 // What all agents of the program share.
 struct Program {
     std::string root;
@@ -127,7 +118,6 @@ struct Program {
     JSRuntime *parent = nullptr;
     std::atomic<bool> has_failed{false};
 };
-
 // What an agent is made of: a window, or a worker, which has a URL and a port to its creator.
 struct AgentStart {
     std::vector<std::string> paths;
@@ -137,7 +127,6 @@ struct AgentStart {
     std::shared_ptr<Inbox> creator;
     std::uint64_t id_at_creator = 0;
 };
-
 // A script and its event loop, on a thread of its own.
 class Agent {
   public:
@@ -146,17 +135,21 @@ class Agent {
           log(start_of.log.get()), inside(start_of.inside.get()) {}
     ~Agent();
     static Agent &of(JSContext *from) { return *static_cast<Agent *>(JS_GetContextPrivate(from)); }
-    // Runs the script and then its tasks, until nothing is left that could make one.
+    // Runs the script and then its tasks.
     void run();
     // Calls a function that the prelude has given back; the second form does so as a task, for an
     // object where there is one. False where it throws, or the agent is ending.
     bool call(const char *hook, const HandleValueArray &words, MutableHandleValue result);
     void call(const char *hook, JSObject *object, HandleValue more = JS::UndefinedHandleValue);
-    void throw_named(const char *name, const char *message);
+    // False, as an error is thrown: a TypeError, or else a DOMException.
+    bool throw_named(const char *name, const char *message);
     void report_pending();
     void checkpoint();
     bool take_ends(std::uint32_t count, std::uint32_t &first);
     bool load(const std::string &path, const std::string &url, bool &is_there);
+    // Runs tasks until one is a message, which the prelude fires, and gives its target, or an array
+    // of that and what isn't as usual; none once nothing is left that could make a task.
+    void next(MutableHandleValue target);
     ScriptPort *port_of(JSObject *object) const {
         return object == global ? inside : behind<ScriptPort>(object);
     }
@@ -168,11 +161,12 @@ class Agent {
     void start(ScriptPort &port);
     void close(ScriptPort &port);
 
-    std::unique_ptr<Parcel> write(HandleValue value, HandleValue list, class Transfer *ports);
+    std::unique_ptr<Parcel> write(HandleValue value, class Transfer *listed = nullptr);
     bool read(const Parcel &parcel, AgentLog *moves, MutableHandleValue value,
               MutableHandleValue ports);
-    bool post(HandleObject object, HandleValue value, HandleValue list);
-    bool clone(HandleValue value, HandleValue list, MutableHandleValue result);
+    bool list_of(HandleValue given, JS::MutableHandleValueVector list);
+    bool post(HandleObject object, HandleValue value, const HandleValueArray &list);
+    bool clone(HandleValue value, const HandleValueArray &list, MutableHandleValue result);
     JSObject *join(HandleObject prototype, std::u16string name);
     void leave(BroadcastMember &member);
     void listen(BroadcastMember &member, bool is_listened);
@@ -190,7 +184,11 @@ class Agent {
     std::optional<Clock::time_point> timer;
     const Clock::time_point began = Clock::now();
     varukoni::Port broadcasts_to;
-    JS::PersistentRootedObject global, hooks, port_prototype, event_prototype, message_hook;
+    JS::PersistentRootedObject global, hooks, port_prototype;
+    // An object of the prototype whose private field is there.
+    JS::PersistentRootedObject stamped_port;
+    // What the message carries that is to be fired.
+    JS::PersistentRootedValue arrived;
 
   private:
     struct Worker {
@@ -216,15 +214,14 @@ class Agent {
     void end();
     bool is_over() const { return is_closing || inbox->is_ending(); }
     bool has_work() const;
-    void run_tasks();
     void take_notices();
-    bool run_message();
-    bool look_at(ScriptPort &port);
+    // Whether that was a task. Where it is a message to be fired, that gives its target.
+    bool run_task(MutableHandleValue target);
+    bool look_at(ScriptPort &port, MutableHandleValue target);
     void queue(ScriptPort &port);
-    void deliver(ScriptPort &port, varukoni::Message message);
-    bool deliver_broadcast();
-    void fire_message(HandleObject target, bool is_read, HandleValue data, HandleValue ports,
-                      bool is_broadcast);
+    void deliver(ScriptPort &port, varukoni::Message &message, MutableHandleValue target);
+    bool deliver_broadcast(MutableHandleValue target);
+    void arrive(const Parcel &parcel, bool is_broadcast, MutableHandleValue target);
     varukoni::Posted hand_over(ScriptPort &port, varukoni::Message &message);
 };
 }  // namespace runtime

@@ -62,7 +62,6 @@ JSObject *Agent::join(HandleObject prototype, std::u16string group) {
     JS::SetReservedSlot(object, native_slot, JS::PrivateValue(member.release()));
     return object;
 }
-
 // The channel is closed: it hears nothing more, not even what is under way.
 void Agent::leave(BroadcastMember &member) {
     if (members.erase(member.id) == 0) return;
@@ -74,14 +73,13 @@ void Agent::leave(BroadcastMember &member) {
     all.erase(std::find(all.begin(), all.end(), &member));
     if (all.empty()) program.broadcasts.members.erase(group);
 }
-
 // A channel that somebody listens to is kept, and the program with it, until it is closed.
 void Agent::listen(BroadcastMember &member, bool is_listened) {
     listened_channels -= member.is_listened;
     member.is_listened = is_listened && members.count(member.id) > 0;
     listened_channels += member.is_listened;
 }
-bool Agent::deliver_broadcast() {
+bool Agent::deliver_broadcast(MutableHandleValue target) {
     const Broadcast &message = *broadcast;
     if (next_target == message.targets.size()) {
         broadcast.reset();
@@ -93,10 +91,8 @@ bool Agent::deliver_broadcast() {
     const BroadcastMember &to = *found->second;
     if (log != nullptr)
         log->write(hublog_got, to.end, message.sender, number, {}, message.parcel->text());
-    RootedObject object(context, to.object);
-    RootedValue value(context), ports(context);
-    const bool is_read = read(*message.parcel, nullptr, &value, &ports);
-    fire_message(object, is_read, value, ports, true);
+    target.setObjectOrNull(to.object);
+    arrive(*message.parcel, true, target);
     return true;
 }
 }  // namespace runtime

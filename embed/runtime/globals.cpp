@@ -34,7 +34,6 @@ bool define(JSContext *context, HandleObject object, std::index_sequence<at...>)
     return (... && JS_DefineFunction(context, object, functions[at].name, native<functions, at>,
                                      functions[at].words, JSPROP_ENUMERATE));
 }
-
 bool gives(const JS::CallArgs &call, JSObject *object) {
     if (object != nullptr) call.rval().setObject(*object);
     return object != nullptr;
@@ -51,36 +50,38 @@ bool set_text(JSContext *context, MutableHandleValue to, const std::string &text
     return made != nullptr;
 }
 BroadcastMember &member_of(HandleValue it) { return *behind<BroadcastMember>(&it.toObject()); }
-
 // The object whose port a method is called on, or a TypeError.
-bool port_object(Agent &agent, JSContext *context, const JS::CallArgs &call,
-                 JS::MutableHandleObject found) {
-    static const JSErrorFormatString format = {"", "this is no port", 0, JSEXN_TYPEERR};
+bool port_object(Agent &agent, const JS::CallArgs &call, JS::MutableHandleObject found) {
     found.set(call.thisv().isObject() ? &call.thisv().toObject() : nullptr);
     if (agent.inside != nullptr && call.thisv().isNullOrUndefined()) found.set(agent.global);
     if (found && (JS::GetClass(found) == &port_class || (agent.inside && found == agent.global)))
         return true;
-    auto look_up = [](void *, unsigned) { return &format; };
-    JS_ReportErrorNumberASCII(context, look_up, nullptr, 1);
-    return false;
+    return agent.throw_named("TypeError", "this is no port");
 }
 template <void (Agent::*act)(ScriptPort &)>
 bool with_port(Agent &agent, JSContext *context, const JS::CallArgs &call) {
     RootedObject object(context);
-    if (!port_object(agent, context, call, &object)) return false;
+    if (!port_object(agent, call, &object)) return false;
     if (ScriptPort *port = agent.port_of(object)) (agent.*act)(*port);
     return true;
 }
-
+// The second word of postMessage: a list of objects, or options that have one.
+bool transfer_list(Agent &agent, JSContext *context, HandleValue word,
+                   JS::MutableHandleValueVector list) {
+    RootedObject object(context, word.isObject() ? &word.toObject() : nullptr);
+    if (!object) return word.isNullOrUndefined() || agent.throw_named("TypeError", "no options");
+    JS::RootedId key(context, JS::GetWellKnownSymbolKey(context, JS::SymbolCode::iterator));
+    RootedValue given(context);
+    if (!JS_GetPropertyById(context, object, key, &given)) return false;
+    if (!given.isNullOrUndefined()) return agent.list_of(word, list);
+    return JS_GetProperty(context, object, "transfer", &given) && agent.list_of(given, list);
+}
 bool post_message(Agent &agent, JSContext *context, const JS::CallArgs &call) {
     RootedObject object(context);
-    RootedValue list(context);
-    if (!port_object(agent, context, call, &object)
-        || !call.requireAtLeast(context, "postMessage", 1)
-        || (call.hasDefined(1)
-            && !agent.call("transferList", HandleValueArray(call[1]), &list)))
-        return false;
-    return agent.post(object, call[0], list);
+    JS::RootedValueVector list(context);
+    return port_object(agent, call, &object) && call.requireAtLeast(context, "postMessage", 1)
+           && transfer_list(agent, context, call.get(1), &list)
+           && agent.post(object, call[0], list);
 }
 bool open_channel(Agent &agent, JSContext *context, const JS::CallArgs &call) {
     auto [left, right] = agent.open_channel(ScriptPort::Kind::port, ScriptPort::Kind::port);
@@ -103,7 +104,7 @@ bool join_channel(Agent &agent, JSContext *context, const JS::CallArgs &call) {
            && gives(call, agent.join(prototype, std::move(name)));
 }
 bool post_channel(Agent &agent, JSContext *context, const JS::CallArgs &call) {
-    auto parcel = agent.write(call[1], JS::UndefinedHandleValue, nullptr);
+    auto parcel = agent.write(call[1]);
     if (!parcel) return false;
     if (agent.program.broadcasts.post(member_of(call[0]), std::move(parcel))) return true;
     return JS_ReportOutOfMemory(context), false;
@@ -116,10 +117,9 @@ bool start_worker(Agent &agent, JSContext *context, const JS::CallArgs &call) {
     begin.name = text_of(context, call[3]);
     return gives(call, agent.start_worker(prototype, std::move(begin)));
 }
-
 // Posts an error that nobody has handled to the creator of this worker.
 bool tell_creator(Agent &agent, JSContext *, const JS::CallArgs &call) {
-    auto parcel = agent.write(call[0], JS::UndefinedHandleValue, nullptr);
+    auto parcel = agent.write(call[0]);
     if (!parcel) return false;
     parcel->is_error = true;
     varukoni::Port &port = agent.inside->port;
@@ -131,7 +131,6 @@ bool print(Agent &, JSContext *context, const JS::CallArgs &call) {
     std::fwrite(line.data(), 1, line.size(), call[0].toBoolean() ? stderr : stdout);
     return true;
 }
-
 // Evaluates the file of a path, and tells whether it is there.
 bool load(Agent &agent, JSContext *context, const JS::CallArgs &call) {
     bool is_there = false;
@@ -139,21 +138,15 @@ bool load(Agent &agent, JSContext *context, const JS::CallArgs &call) {
     call.rval().setBoolean(is_there);
     return true;
 }
-
 // What a MessagePort has, and in part a Worker and the scope of a worker.
 constexpr Function port_functions[] = {
     {"postMessage", 1, post_message},
-    {"start", 0, with_port<&Agent::start>},
-    {"close", 0, with_port<&Agent::close>},
+    {"start", 0, with_port<&Agent::start>}, {"close", 0, with_port<&Agent::close>},
 };
 constexpr Function script_functions[] = {
-    {"openChannel", 0, open_channel},
-    {"joinChannel", 2, join_channel},
-    {"postChannel", 2, post_channel},
-    {"startWorker", 4, start_worker},
-    {"tellCreator", 1, tell_creator},
-    {"print", 2, print},
-    {"load", 2, load},
+    {"openChannel", 0, open_channel}, {"startWorker", 4, start_worker},
+    {"joinChannel", 2, join_channel}, {"postChannel", 2, post_channel},
+    {"tellCreator", 1, tell_creator}, {"print", 2, print}, {"load", 2, load},
     {"listenChannel", 2, [](auto &agent, auto *, auto &call) {
         return agent.listen(member_of(call[0]), call[1].toBoolean()), true;
     }},
@@ -162,16 +155,32 @@ constexpr Function script_functions[] = {
     }},
     {"terminate", 0, with_port<&Agent::terminate>},
     {"fail", 0, [](auto &agent, auto *, auto &) { return agent.program.has_failed = true; }},
+    // An object of a prototype, with the state of an event, or a port's.
     {"create", 1, [](auto &, auto *context, auto &call) {
-        RootedObject prototype(context, call[0].toObjectOrNull());
-        return gives(call, JS_NewObjectWithGivenProto(context, &platform_class, prototype));
+        RootedObject prototype(context, &call[0].toObject());
+        const JSClass &made_class = call.get(2).isUndefined() ? platform_class : port_class;
+        JSObject *made = JS_NewObjectWithGivenProto(context, &made_class, prototype);
+        if (made != nullptr) JS::SetReservedSlot(made, native_slot, call.get(1));
+        return gives(call, made);
     }},
     {"now", 0, [](auto &agent, auto *, auto &call) {
         const Milliseconds time = Clock::now() - agent.began;
         return call.rval().setNumber(time.count()), true;
     }},
-    {"clone", 2, [](auto &agent, auto *, auto &call) {
-        return agent.clone(call[0], call[1], call.rval());
+    {"clone", 2, [](auto &agent, auto *context, auto &call) {
+        JS::RootedValueVector list(context);
+        return agent.list_of(call[1], &list) && agent.clone(call[0], list, call.rval());
+    }},
+    // The state of an event.
+    {"stateOf", 1, [](auto &agent, auto *, auto &call) {
+        JSObject *object = call[0].isObject() ? &call[0].toObject() : nullptr;
+        if (object != nullptr && JS::GetClass(object) == &platform_class)
+            call.rval().set(JS::GetReservedSlot(object, native_slot));
+        return call.rval().isObject() || agent.throw_named("TypeError", "this is no event");
+    }},
+    {"next", 0, [](auto &agent, auto *, auto &call) { return agent.next(call.rval()), true; }},
+    {"data", 0, [](auto &agent, auto *, auto &call) {
+        return call.rval().set(agent.arrived), true;
     }},
     {"checkpoint", 0, [](auto &agent, auto *, auto &) { return agent.checkpoint(), true; }},
     // When the first timer ends; undefined where there is none.
@@ -189,12 +198,27 @@ constexpr Function script_functions[] = {
 };
 }  // namespace
 
-void Agent::throw_named(const char *name, const char *message) {
+bool Agent::throw_named(const char *name, const char *message) {
     RootedValueArray<2> words(context);
     RootedValue made(context);
     if (set_text(context, words[0], name) && set_text(context, words[1], message)
         && call("exception", words, &made))
         JS_SetPendingException(context, made);
+    return false;
+}
+// The objects of a value that has an iterator; undefined has none.
+bool Agent::list_of(HandleValue given, JS::MutableHandleValueVector list) {
+    RootedValue next(context);
+    JS::ForOfIterator all(context);
+    if (given.isUndefined()) return true;
+    if (!given.isObject()) return throw_named("TypeError", "a list can't be iterated");
+    if (!all.init(given)) return false;
+    for (bool is_done = false;;) {
+        if (!all.next(&next, &is_done)) return false;
+        if (is_done) return true;
+        if (!next.isObject()) return throw_named("TypeError", "something in a list is no object");
+        if (!list.append(next)) return false;
+    }
 }
 bool Agent::load(const std::string &path, const std::string &url, bool &is_there) {
     std::ifstream file(program.root + path, std::ios::binary);
@@ -248,7 +272,7 @@ bool Agent::begin_realm() {
         kept.init(context, &value.toObject());
         return true;
     };
-    return keep("portPrototype", port_prototype) && keep("eventPrototype", event_prototype)
-           && keep("message", message_hook);
+    arrived.init(context);
+    return keep("portPrototype", port_prototype) && keep("port", stamped_port);
 }
 }  // namespace runtime

@@ -34,9 +34,11 @@ class Inbox {
         if (event < 0) throw std::system_error(errno, std::generic_category(), "eventfd");
     }
     ~Inbox() { close(event); }
+    // The lock is free again before an agent that looks sees that there is something.
     void put(Notice notice) {
-        std::lock_guard<std::mutex> held(lock);
+        std::unique_lock<std::mutex> held(lock);
         notices.push_back(notice);
+        held.unlock();
         wake();
     }
     void take(std::vector<Notice> &into) {
@@ -59,28 +61,29 @@ class Inbox {
         context = given;
     }
     // Sleeps until something is told, or until this time. Before that it looks for some
-    // microseconds, where the last sleep was short.
+    // microseconds, but in none of the next waits where it has looked in vain.
     void sleep(std::optional<Clock::time_point> until) {
-        for (unsigned look = 0; look < looks; look++) {
+        const auto end = Clock::now() + look_time;
+        for (unsigned look = 1; blind_waits == 0; look++) {
             if (is_filled.load(std::memory_order_relaxed)) return;
             __builtin_ia32_pause();
+            if (look % looks_a_time == 0 && Clock::now() > end) blind_waits = most_blind_waits;
         }
-        const auto begin = Clock::now();
+        blind_waits--;
         pollfd waited = {event, POLLIN, 0};
         const auto left = until ? std::max<std::int64_t>((*until - Clock::now()).count(), 0) : 0;
         const timespec time = {left / 1'000'000'000, left % 1'000'000'000};
         is_asleep.store(true);
         if (!is_filled.load()) ppoll(&waited, 1, until ? &time : nullptr, nullptr);
         is_asleep.store(false);
-        looks = Clock::now() - begin < short_sleep ? most_looks : least_looks;
         for (std::uint64_t count; read(event, &count, sizeof count) > 0;) continue;
     }
 
   private:
-    static constexpr unsigned least_looks = 20, most_looks = 500;
-    static constexpr std::chrono::microseconds short_sleep{50};
+    static constexpr unsigned looks_a_time = 20, most_blind_waits = 32;
+    static constexpr std::chrono::microseconds look_time{50};
     const int event;
-    unsigned looks = most_looks;
+    unsigned blind_waits = 0;
     std::mutex lock;
     std::vector<Notice> notices;
     JSContext *context = nullptr;

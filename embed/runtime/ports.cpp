@@ -19,11 +19,12 @@ const JSClassOps port_ops = {nullptr, nullptr, nullptr, nullptr, nullptr, nullpt
                              nullptr, nullptr, nullptr};
 const js::ClassExtension port_extension = {moved<ScriptPort>};
 }  // namespace
-
-const JSClass platform_class = {"Object", 0, nullptr, nullptr, nullptr, nullptr};
+const JSClass platform_class = {"Object", JSCLASS_HAS_RESERVED_SLOTS(1), nullptr, nullptr, nullptr,
+                                nullptr};
 const JSClass port_class = {"MessagePort", slot_and_finalizer, &port_ops, nullptr, &port_extension,
                             nullptr};
 void discard(ScriptPort *port) {
+    if (port == nullptr) return;
     thread_local std::vector<ScriptPort *> *later = nullptr;
     if (later != nullptr) return later->push_back(port);
     std::vector<ScriptPort *> found = {port};
@@ -35,7 +36,6 @@ void discard(ScriptPort *port) {
     }
     later = nullptr;
 }
-
 // The collector is told of the memory behind an object, to be as eager as that wants.
 void set_port(JSObject *object, ScriptPort *port) {
     if (behind<ScriptPort>(object) != nullptr)
@@ -44,11 +44,13 @@ void set_port(JSObject *object, ScriptPort *port) {
                         port != nullptr ? JS::PrivateValue(port) : JS::UndefinedValue());
     if (port != nullptr) JS::AddAssociatedMemory(object, port_bytes, JS::MemoryUse::Embedding1);
 }
-
 // A new object for a port, which is this agent's then. None where memory ran out.
 JSObject *Agent::object_of(ScriptPort *port, HandleObject prototype) {
-    JSObject *object = JS_NewObjectWithGivenProto(context, &port_class, prototype);
-    if (object == nullptr || port == nullptr) return object;
+    RootedObject object(context, JS_NewObjectWithGivenProto(context, &port_class, prototype));
+    if (object && prototype == port_prototype
+        && !JS_InitializePropertiesFromCompatibleNativeObject(context, object, stamped_port))
+        return nullptr;
+    if (!object || port == nullptr) return object;
     set_port(object, port);
     port->object = object;
     port->is_started = false;
@@ -78,7 +80,6 @@ void Agent::adopt(ScriptPort &port) {
     kept_ports += port.keeps_program();
     queue(port);
 }
-
 // The port leaves the agent, and nobody is woken for it.
 void Agent::release(ScriptPort &port) {
     kept_ports -= port.keeps_program();
@@ -106,24 +107,23 @@ void Agent::queue(ScriptPort &port) {
     if (!port.is_queued) ready.push_back(port.id);
     port.is_queued = true;
 }
-
 // Looks at a port, and delivers what is there. Whether that was a task. Where nothing is there the
 // agent is woken later. A port that isn't started tells its close where no message is before that.
-bool Agent::look_at(ScriptPort &port) {
+bool Agent::look_at(ScriptPort &port, MutableHandleValue target) {
     if (!port.port.is_open()) return false;
-    if (!port.ahead) port.ahead = port.port.take();
-    if (port.ahead && !port.is_started) return false;
-    if (port.ahead) {
+    auto message = port.ahead ? std::exchange(port.ahead, std::nullopt) : port.port.take();
+    if (message && !port.is_started) return port.ahead = std::move(message), false;
+    if (message) {
         queue(port);
-        deliver(port, *std::exchange(port.ahead, std::nullopt));
+        deliver(port, *message, target);
         return true;
     }
     if (port.port.ended()) {
         // The peer is closed, and all that it had posted was delivered.
-        RootedObject target(context, port.object);
-        const bool has_event = port.kind == ScriptPort::Kind::port && target;
+        RootedObject object(context, port.object);
+        const bool has_event = port.kind == ScriptPort::Kind::port && object;
         close(port);
-        if (has_event) call("closed", target);
+        if (has_event) call("closed", object);
         return true;
     }
     const bool sleeps = port.port.arm([to = inbox, id = port.id] {
@@ -133,41 +133,37 @@ bool Agent::look_at(ScriptPort &port) {
     return false;
 }
 
-void Agent::deliver(ScriptPort &port, varukoni::Message message) {
+void Agent::deliver(ScriptPort &port, varukoni::Message &message, MutableHandleValue target) {
     if (port.kind == ScriptPort::Kind::road) {
         broadcast.reset(static_cast<Broadcast *>(message.body.release()));
         next_target = 0;
-        deliver_broadcast();
+        deliver_broadcast(target);
         return;
     }
     auto &parcel = static_cast<Parcel &>(*message.body);
     if (log != nullptr && !parcel.is_error)
         log->write(hublog_got, port.recorded.end, 0, parcel.number, parcel.ends(), parcel.text());
-    RootedObject target(context, port.object);
-    RootedValue value(context), sent(context);
-    const bool is_read = read(parcel, log, &value, &sent);
-    if (!parcel.is_error) return fire_message(target, is_read, value, sent, false);
-    if (is_read) call("workerError", target, value);
+    target.setObjectOrNull(port.object);
+    if (!parcel.is_error) return arrive(parcel, false, target);
+    RootedValue error(context), ports(context);
+    RootedObject object(context, &target.toObject());
+    target.setUndefined();
+    if (read(parcel, log, &error, &ports)) call("workerError", object, error);
 }
-
-// Fires `message`, or `messageerror` where the message couldn't be read.
-void Agent::fire_message(HandleObject target, bool is_read, HandleValue data, HandleValue sent,
-                         bool is_broadcast) {
-    if (!is_read) JS_ClearPendingException(context);
-    if (inbox->is_ending()) return;
-    RootedObject event(
-        context, JS_NewObjectWithGivenProto(context, &platform_class, event_prototype));
-    RootedValueArray<6> words(context);
-    words[0].setObject(*target);
-    words[1].setObjectOrNull(event);
+// Reads a message for its target. Where that fails, or it has ports, or is a broadcast, an array
+// tells so beside the target.
+void Agent::arrive(const Parcel &parcel, bool is_broadcast, MutableHandleValue target) {
+    RootedValueArray<4> words(context);
+    const bool is_read = read(parcel, is_broadcast ? nullptr : log, &arrived, words[1]);
+    if (is_read && !is_broadcast && words[1].isUndefined()) return;
+    if (!is_read) {
+        JS_ClearPendingException(context);
+        arrived.setNull();
+    }
+    words[0].set(target);
     words[2].setBoolean(is_read);
-    words[3].set(data);
-    words[4].set(sent);
-    words[5].setBoolean(is_broadcast);
-    RootedValue result(context);
-    RootedValue hook(context, JS::ObjectValue(*message_hook));
-    if (!event || !JS::Call(context, JS::UndefinedHandleValue, hook, words, &result))
-        report_pending();
-    checkpoint();
+    words[3].setBoolean(is_broadcast);
+    target.setObjectOrNull(JS::NewArrayObject(context, words));
+    if (target.isNull()) report_pending();
 }
 }  // namespace runtime

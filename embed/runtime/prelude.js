@@ -3,16 +3,19 @@
 (function (native, isWorker, paths, ownUrl, ownName) {
 'use strict';
 const { defineProperty, freeze, getOwnPropertyNames, getOwnPropertyDescriptor } = Object;
-const { apply } = Reflect;
+const { apply } = Reflect, { isArray } = Array;
 const then = Function.prototype.call.bind(Promise.prototype.then), resolved = Promise.resolve();
 const isObject = (it) => typeof it === 'object' && it !== null || typeof it === 'function';
-const slots = () => class extends function (object) { return object; } {
+// Each is compiled by itself, or the engine would see one place for the slots of all classes.
+const slots = () => Function(`return class extends function (object) { return object; } {
   #state;
   constructor(object, state) { super(object); this.#state = state; }
   static of(object) { return object.#state; }
-  static has(object) { return isObject(object) && #state in object; }
-};
-const [Targets, Events, Exceptions, Channels, Broadcasts, Places] = Array.from('123456', slots);
+  static set(object, state) { return object.#state = state; }
+  static has(object) { return Object(object) === object && #state in object; }
+}`)();
+const [Targets, Exceptions, Channels, Broadcasts, Places] = Array.from('12345', slots);
+const { stateOf: eventState } = native;
 const define = (name, value) =>
   defineProperty(globalThis, name, { value, writable: true, configurable: true });
 const add = (made, members) => {
@@ -47,12 +50,6 @@ function sequence(it, isRight, what) {
   const list = [...{ [Symbol.iterator]: () => apply(method, it, []) }];
   return list.every(isRight) ? list : refuse(`something in a list is no ${what}`);
 }
-// The second word of postMessage: a list of objects, or options that have one.
-function transferList(word) {
-  const isList = isObject(word) && typeof word[Symbol.iterator] === 'function';
-  const list = isList ? word : options(word).transfer;
-  return list === undefined ? undefined : sequence(list, isObject, 'object');
-}
 
 // DOMException (Web IDL, 2.8.1)
 // By their codes: names of errors, of which the constants are made. A marked one has no name today.
@@ -77,52 +74,52 @@ expose(DOMException, Object.fromEntries(names.map((it, at) => [constant(it), at 
 
 // Events (DOM, 2.2)
 const noPorts = freeze([]);
-const stateOf = (type, isTrusted, cancelable = false) => ({
-  type, isTrusted, cancelable, timeStamp: undefined, target: null, currentTarget: null,
-  eventPhase: 0, bubbles: false, composed: false, defaultPrevented: false, isStopped: false,
-  isStoppedNow: false, isDispatched: false, isPassive: false, data: null, origin: '',
-  lastEventId: '', source: null, ports: noPorts,
+// An object of the engine has 16 properties of its own at most, and further ones elsewhere.
+const stateOf = (type, isTrusted, cancelable, data, origin, ports) => ({
+  type, isTrusted, cancelable, timeStamp: undefined, target: null, bubbles: false, composed: false,
+  defaultPrevented: false, stops: 0, isDispatched: false, isPassive: false,
+  data, origin, lastEventId: '', source: null, ports,
 });
 class Event {
   constructor(type, init = undefined) {
     needs(arguments, 1);
     const { bubbles, cancelable, composed } = options(init);
-    const state = stateOf(`${type}`, false, !!cancelable);
+    const state = stateOf(`${type}`, false, !!cancelable, null, '', noPorts);
     Object.assign(state, { bubbles: !!bubbles, composed: !!composed, timeStamp: native.now() });
-    return new Events(native.create(new.target.prototype), state);
+    return native.create(new.target.prototype, state);
   }
-  get timeStamp() { return Events.of(this).timeStamp ??= native.now(); }
-  composedPath() { return [Events.of(this).currentTarget ?? []].flat(); }
-  stopPropagation() { Events.of(this).isStopped = true; }
-  stopImmediatePropagation() { Events.of(this).isStopped = Events.of(this).isStoppedNow = true; }
+  get timeStamp() { return eventState(this).timeStamp ??= native.now(); }
+  get currentTarget() { return eventState(this).isDispatched ? eventState(this).target : null; }
+  get eventPhase() { return eventState(this).isDispatched ? 2 : 0; }
+  composedPath() { return eventState(this).isDispatched ? [eventState(this).target] : []; }
+  stopPropagation() { eventState(this).stops ||= 1; }
+  stopImmediatePropagation() { eventState(this).stops = 2; }
   preventDefault() {
-    const state = Events.of(this);
+    const state = eventState(this);
     if (state.cancelable && !state.isPassive) state.defaultPrevented = true;
   }
 }
-reads(Event, Events.of, ['type', 'target', 'currentTarget', 'eventPhase', 'bubbles', 'cancelable',
-  'defaultPrevented', 'composed', 'isTrusted']);
+reads(Event, eventState, ['type', 'target', 'bubbles', 'cancelable', 'defaultPrevented', 'composed',
+  'isTrusted']);
 expose(Event, { NONE: 0, CAPTURING_PHASE: 1, AT_TARGET: 2, BUBBLING_PHASE: 3 });
-
 // A class of events, with what its constructor makes of its options.
 function eventClass(name, count, take, members) {
   const made = { [name]: class extends Event {
     constructor(type, init = undefined) {
       needs(arguments, count);
       super(type, init);
-      Object.assign(Events.of(this), take(options(init)));
+      Object.assign(eventState(this), take(options(init)));
     }
   } }[name];
   if (count > 1) defineProperty(made, 'length', { value: count });
-  reads(made, Events.of, members);
+  reads(made, eventState, members);
   expose(made);
   return made;
 }
 eventClass('CustomEvent', 1, ({ detail = null }) => ({ detail }), ['detail']);
 const ErrorEvent = eventClass('ErrorEvent', 1,
   ({ colno = 0, error, filename = '', lineno = 0, message = '' }) => ({
-    colno: colno >>> 0, error, filename: `${filename}`, lineno: lineno >>> 0,
-    message: `${message}`,
+    colno: colno >>> 0, error, filename: `${filename}`, lineno: lineno >>> 0, message: `${message}`,
   }), ['message', 'filename', 'lineno', 'colno', 'error']);
 const PromiseRejectionEvent = eventClass('PromiseRejectionEvent', 2, (init) => (
   isObject(init.promise) ? { promise: init.promise, reason: init.reason } : refuse('no promise')
@@ -137,30 +134,29 @@ const MessageEvent = eventClass('MessageEvent', 1,
   }), ['data', 'origin', 'lastEventId', 'source', 'ports']);
 
 // Event targets (DOM, 2.7)
-const target = (object, watch = null) => new Targets(object, { lists: undefined, watch });
-const adopt = (ports) => (ports.forEach((it) => target(it)), ports);
-const listOf = (object, type) => Targets.of(object).lists?.get(type) ?? [];
-const setList = (object, type, list) => {
-  const state = Targets.of(object), { watch } = state;
-  (state.lists ??= new Map()).set(type, list);
-  if (watch !== null && type === 'message') watch(object, list.length > 0);
+// A port has no state before somebody listens to it.
+const newTarget = (watch = null) => ({ records: [], watch });
+const target = (object, watch) => new Targets(object, newTarget(watch));
+const recordsOf = (object) => Targets.of(object)?.records ?? [];
+const setRecords = (object, type, records) => {
+  const state = Targets.of(object) ?? Targets.set(object, newTarget()), { watch } = state;
+  state.records = records;
+  if (watch !== null && type === 'message') watch(object, records.some((it) => it.type === type));
 };
 // Those that capture stand first, as they are called first.
 function listen(object, record) {
-  const list = listOf(object, record.type), first = [], rest = [];
-  for (const it of list) (it.isCapture ? first : rest).push(it);
-  (record.isCapture ? first : rest).push(record);
-  setList(object, record.type, first.length > 0 ? [...first, ...rest] : rest);
-  return record;
+  const records = recordsOf(object), isRest = (it) => !it.isCapture;
+  setRecords(object, record.type, isRest(record) ? [...records, record]
+    : [...records.filter((it) => !isRest(it)), record, ...records.filter(isRest)]);
 }
 const recordOf = (type, callback, isHandler, isCapture, isOnce, isPassive) =>
   ({ type, callback, isHandler, isCapture, isOnce, isPassive, isRemoved: false });
 function unlisten(object, record) {
   record.isRemoved = true;
-  setList(object, record.type, listOf(object, record.type).filter((it) => it !== record));
+  setRecords(object, record.type, recordsOf(object).filter((it) => it !== record));
 }
-const found = (object, type, callback, isCapture) =>
-  listOf(object, type).find((it) => it.callback === callback && it.isCapture === isCapture);
+const found = (object, type, callback, isCapture) => recordsOf(object).find((it) =>
+  it.type === type && it.callback === callback && it.isCapture === isCapture && !it.isHandler);
 class EventTarget {
   constructor() { return target(native.create(new.target.prototype)); }
   addEventListener(type, callback, flags = undefined) {
@@ -180,32 +176,28 @@ class EventTarget {
   }
   dispatchEvent(event) {
     needs(arguments, 1);
-    const object = this ?? globalThis, state = Events.of(event);
+    const object = this ?? globalThis, state = eventState(event);
     if (state.isDispatched) throw new DOMException('it is being dispatched', 'InvalidStateError');
     state.isTrusted = false;
     return fire(object, event, state, false);
   }
 }
 expose(EventTarget);
-
 // Fires an event at a target, and answers whether nobody has canceled it. Between two listeners of
 // a task stands a checkpoint of microtasks.
 function fire(object, event, state, isTask) {
-  const list = Targets.of(object).lists?.get(state.type);
+  const records = state.stops > 0 ? [] : recordsOf(object);
+  let isBehind = false;
   state.target = object;
-  if (list !== undefined && list.length > 0 && !state.isStopped) {
-    state.isDispatched = true;
-    state.currentTarget = object;
-    state.eventPhase = 2;
-    for (let at = 0; at < list.length && !state.isStoppedNow; at++) {
-      if (list[at].isRemoved) continue;
-      if (isTask && at > 0) native.checkpoint();
-      callListener(object, list[at], event, state);
-    }
+  state.isDispatched = true;
+  for (let at = 0; at < records.length && state.stops < 2; at++) {
+    if (records[at].isRemoved || records[at].type !== state.type) continue;
+    if (isTask && isBehind) native.checkpoint();
+    isBehind = true;
+    callListener(object, records[at], event, state);
   }
-  state.isDispatched = state.isStopped = state.isStoppedNow = false;
-  state.eventPhase = 0;
-  state.currentTarget = null;
+  state.isDispatched = false;
+  state.stops = 0;
   return !state.defaultPrevented;
 }
 function callListener(object, record, event, state) {
@@ -230,17 +222,17 @@ function handle(object, callback, event, state) {
   if (apply(callback, object, words) === isError && state.cancelable) state.defaultPrevented = true;
 }
 // Event handler attributes. A handler has the place in the order that its first setting gave it.
+const handlerOf = (on, type) => recordsOf(on).find((it) => it.isHandler && it.type === type);
 function handlers(made, types, onSet = () => {}) {
   for (const type of types) {
     const key = `on${type}`;
     add(made, {
-      get [key]() { return Targets.of(this ?? globalThis)[key]?.callback ?? null; },
+      get [key]() { return handlerOf(this ?? globalThis, type)?.callback ?? null; },
       set [key](value) {
-        const object = this ?? globalThis, state = Targets.of(object), before = state[key];
-        if (before && !isObject(value)) unlisten(object, before);
-        if (!isObject(value)) state[key] = undefined;
+        const object = this ?? globalThis, before = handlerOf(object, type);
+        if (!isObject(value)) before && unlisten(object, before);
         else if (before) before.callback = value;
-        else state[key] = listen(object, recordOf(type, value, true, false, false, false));
+        else listen(object, recordOf(type, value, true, false, false, false));
         onSet(object, type);
       },
     });
@@ -256,11 +248,11 @@ handlers(MessagePort, ['message', 'messageerror', 'close'], (port, type) => {
 expose(MessagePort);
 class MessageChannel {
   constructor() {
-    const [port1, port2] = adopt(native.openChannel());
-    return new Channels(native.create(new.target.prototype), { port1, port2 });
+    return new Channels(native.create(new.target.prototype), native.openChannel());
   }
+  get port1() { return Channels.of(this)[0]; }
+  get port2() { return Channels.of(this)[1]; }
 }
-reads(MessageChannel, Channels.of, ['port1', 'port2']);
 expose(MessageChannel);
 class BroadcastChannel extends EventTarget {
   constructor(name) {
@@ -316,7 +308,6 @@ function placeOf(error) {
 }
 const lineOf = ({ filename, lineno, colno }, what, error) =>
   `${filename}:${lineno}:${colno}: ${what} ${textOf(error)}`;
-
 // An error that nobody handles here is told to the creator of the worker, and at last on standard
 // error.
 function tell(place, text, isMissing = false) {
@@ -325,8 +316,8 @@ function tell(place, text, isMissing = false) {
   native.fail();
 }
 function trusted(type, of, made, isCancelable = false) {
-  const state = Object.assign(stateOf(type, true, isCancelable), made);
-  return [new Events(native.create(of.prototype), state), state];
+  const state = Object.assign(stateOf(type, true, isCancelable, null, '', noPorts), made);
+  return [native.create(of.prototype, state), state];
 }
 let isReporting = false;
 function report(error, place = placeOf(error), text = lineOf(place, 'uncaught', error)) {
@@ -339,7 +330,6 @@ function report(error, place = placeOf(error), text = lineOf(place, 'uncaught', 
     isReporting = false;
   }
 }
-
 // Promises by what happened to them since the last checkpoint; those that were told of.
 let tracked = new Map();
 const told = new WeakSet();
@@ -359,7 +349,6 @@ function rejections() {
     tell(placeOf(reason), lineOf(placeOf(reason), 'unhandled rejection:', reason));
   }
 }
-
 // What the console prints: texts as they are, and objects as JSON.
 function inspect(it) {
   if (it instanceof Error) return textOf(it);
@@ -463,19 +452,17 @@ class Window extends EventTarget {
 const top = isWorker ? WorkerGlobalScope : Window;
 const scope = isWorker ? DedicatedWorkerGlobalScope : Window;
 add(top, {
-  get location() { return location; },
-  get origin() { return 'null'; },
+  get location() { return location; }, get origin() { return 'null'; },
   setTimeout(handler, ...words) { return setTimer(arguments, false); },
   setInterval(handler, ...words) { return setTimer(arguments, true); },
-  clearTimeout(id = 0) { clearTimer(id); },
-  clearInterval(id = 0) { clearTimer(id); },
+  clearTimeout(id = 0) { clearTimer(id); }, clearInterval(id = 0) { clearTimer(id); },
   queueMicrotask(callback) {
     if (typeof callback !== 'function') refuse('the callback is no function');
     then(resolved, () => { try { callback(); } catch (error) { report(error); } });
   },
   structuredClone(value, init = undefined) {
     needs(arguments, 1);
-    return native.clone(value, transferList({ transfer: options(init).transfer }));
+    return native.clone(value, options(init).transfer);
   },
   reportError(error) { report(needs(arguments, 1) && error); },
 });
@@ -505,13 +492,12 @@ function deserialized(text) {
     : new (Object.hasOwn(errorTypes, name) ? errorTypes[name] : Error)(message);
   return defineProperty(made, 'stack', { value: stack, writable: true, configurable: true });
 }
-
 return {
+  // What the runtime makes of this prototype has the slots of this port.
   portPrototype: MessagePort.prototype,
-  eventPrototype: MessageEvent.prototype,
-  transferList, serialized, deserialized, report, track, rejections, adopt,
-  exception: (name, message) => new DOMException(message, name),
-  timers: runTimer,
+  port: new Targets(native.create(MessagePort.prototype, undefined, true), null),
+  serialized, deserialized, report, track, rejections, timers: runTimer,
+  exception: (name, why) => (name === 'TypeError' ? refuse(why) : new DOMException(why, name)),
   begin() {
     for (const path of paths) {
       const { href } = path === own ? location : resolve(path.replace(/%/g, '%25'));
@@ -525,18 +511,19 @@ return {
       }
     }
   },
-  message(object, event, isRead, data, ports, isBroadcast) {
-    const state = stateOf(isRead ? 'message' : 'messageerror', true);
-    if (isRead) state.data = data;
-    if (isBroadcast) state.origin = 'null';
-    if (ports !== undefined) state.ports = freeze(adopt(ports));
-    new Events(event, state);
-    fire(object, event, state, true);
+  run() {
+    for (let to = native.next(); to !== undefined; to = native.next()) {
+      const isPlain = !isArray(to), isRead = isPlain || to[2];
+      const state = stateOf(isRead ? 'message' : 'messageerror', true, false, native.data(),
+        !isPlain && to[3] ? 'null' : '', isPlain ? noPorts : freeze(to[1]) ?? noPorts);
+      const event = native.create(MessageEvent.prototype, state);
+      fire(isPlain ? to : to[0], event, state, true);
+    }
   },
   closed(object) { fire(object, ...trusted('close', Event, {}), true); },
   workerError(object, { isMissing, text, ...place }) {
     const of = isMissing ? Event : ErrorEvent, more = isMissing ? {} : { ...place, error: null };
-    const isHeard = listOf(object, 'error').length > 0;
+    const isHeard = recordsOf(object).some((it) => it.type === 'error');
     const isUnhandled = fire(object, ...trusted('error', of, more, !isMissing), true);
     if (isUnhandled && !(isMissing && isHeard)) report(null, place, text);
   },
