@@ -26,6 +26,7 @@ TYPES = {
 WORDS = {
     "InOrder": "what is asked or taken comes in the order that the word's arguments give",
     "accepted": "the accepted list of a line, of a history and of logs",
+    "looked": "what is so after a look: of a taker at its end, and of a listener at its names",
     "◌>>=◌": "one reading or computation after the other, as the sign says",
 }
 
