@@ -122,6 +122,8 @@ impl HeldEnds {
 
     /// Asks these ends of a range in order, up to the first that gives an envelope: the next asking
     /// begins behind it. `was` tells whether an end was busy before.
+    // It is inlined, and so is `serve_marked`, since each return would copy an envelope.
+    #[inline(always)]
     fn walk<L: Ledger, R: Wait>(
         &mut self,
         rt: &R,
@@ -155,6 +157,7 @@ impl HeldEnds {
 
     /// Looks which ends were rung, and asks the marked ones in order, from the next key on and then
     /// from the first.
+    #[inline(always)]
     fn serve_marked<L: Ledger, R: Wait>(
         &mut self,
         rt: &R,
@@ -179,6 +182,7 @@ impl HeldEnds {
 
     /// Asks each end of a range in order, up to the first that gives an envelope. From time to time
     /// it serves the marked ones first.
+    #[inline(never)]
     fn serve_each<L: Ledger, R: Wait>(
         &mut self,
         rt: &R,
