@@ -13,10 +13,10 @@ use Rattle.hub_envelope.specs.declared.posted.Posted.{Posted}
 use Rattle.hub_queue.specs.declared.stand.Tried.TheVariants.{Answered, Turned}
 use Rattle.hub_queue.specs.declared.error.PostError.{PostError}
 use Rattle.hub_queue.specs.Posting.{StaysAt, name_after, HasPassed, LeavesBehind, GoesTo, HasSeen, IsSeen, PutsNothing, IsPosted}
-use Rattle.hub_queue.specs.Putting.{IsPut}
+use Rattle.hub_queue.specs.Putting.{answer_back, draft_in}
 use Rattle.hub_queue.specs.Seats.{LineSeat, IsNameOf}
 use Rattle.hub_bell.specs.Seats.{Done, silent}
-use Rattle.hub_queue.specs.Rings.{HasRung, RingsOnward}
+use Rattle.hub_queue.specs.Rings.{HasRung, RingsOnward, RingsTried}
 use Rattle.hub_queue.specs.Standing.{StandSeat, FollowsStand, HasNotPushed, put_of, right_in, right_of, entry_in}
 use Rattle.hub_queue.specs.Trying.{IsAnswered, IsPutInside, IsTried, gone_to, GoesToUnused, IsPostedOnward, error_of}
 
@@ -65,15 +65,15 @@ module _ (turned here next : StandSeat) (hops : ℕ) (first found : Refusal) (go
           ((here.entry, refl, subst (IsNameOf (put_of here)) (gone.name ∙ ap (name_after turned.name) (sym same)) been.0, been.1), rest (suc n) same low)
 
   -- and is turned there too
-  pub gone_more : (now : StandSeat) (draft back : Draft) (again : Refusal) → IsTried there now draft (Turned again back) → GoneOn turned now (hops + 1) first again
-  gone_more now draft back again tried = record {
+  pub gone_more : (now : StandSeat) (lent : Option Draft) (again : Refusal) → IsTried there now lent (Turned again) → GoneOn turned now (hops + 1) first again
+  gone_more now lent again tried = record {
     name = tried.0.name ∙ name_there;
     left = subst (LeavesBehind turned (hops + 1)) (sym tried.0.left) left_there;
     none = λ none. absurd (omega arith);
     some = λ _. (
       subst (λ (v : PutView). IsNameOf v now.name) (sym tried.1) (subst (IsNameOf (put_of there)) (sym tried.0.name) is_next.named),
       subst HasNotPushed (sym tried.1) is_next.unused.put,
-      subst (λ (n : ℕ). HasSeen now n again) is_next.unused.enters tried.3,
+      subst (λ (n : ℕ). HasSeen now n again) is_next.unused.enters tried.2,
     );
   }
 
@@ -86,14 +86,10 @@ module _ (turned here next : StandSeat) (hops : ℕ) (first found : Refusal) (go
   }
 
   -- or the post is answered there
-  pub answered_there : (now : StandSeat) (draft kept : Draft) (answer : Result Posted (PostError × Draft)) → kept ≡ draft → IsTried there now kept (Answered answer) → IsPostedOnward turned now first draft answer
-  answered_there now draft kept (Ok posted) same tried = (
-    put_of there,
-    unused_at now tried.0,
-    subst (λ (d : Draft). IsPut (put_of there) (put_of now) d (Ok posted)) same tried.1,
-  )
-  answered_there now draft kept (Err refused) same tried = (
-    tried.1.1 ∙ same,
+  pub answered_there : (now : StandSeat) (lent : Option Draft) (answer : Result Posted PostError) → IsTried there now lent (Answered answer) → IsPostedOnward turned now first (draft_in lent) (answer_back answer lent)
+  answered_there now lent (Ok posted) tried = (put_of there, unused_at now tried.0, tried.1)
+  answered_there now lent (Err why) tried = (
+    refl,
     inr (
       put_of there,
       unused_at now tried.0,
@@ -107,7 +103,7 @@ pub goes_later : (old new : StandSeat) → GoesTo old new → old.name.epoch < n
 goes_later old new goes = let some = goes.some in let epoch = ap (λ (k : Key). k.epoch) goes.name in omega arith
 
 -- a post is answered where the line stands
-is_answered : (old here : StandSeat) (draft : Draft) (answer : Result Posted (PostError × Draft)) → StaysAt old here → IsAnswered (put_of old) (put_of here) draft answer → IsPosted old here draft answer
+pub is_answered : (old here : StandSeat) (draft : Draft) (answer : Result Posted (PostError × Draft)) → StaysAt old here → IsAnswered (put_of old) (put_of here) draft answer → IsPosted old here draft answer
 is_answered old here draft (Ok posted) stays put = (put_of old, old.entry.at.enters, inl (stays, refl, refl), put)
 is_answered old here draft (Err refused) stays put = (put_of old, old.entry.at.enters, inl (stays, refl, refl), subst (PutsNothing (put_of old) (put_of here)) (sym put.2) put.0, put.1, subst (λ (e : PostError). IsSeen here old.entry.at.enters e) (sym put.2) tt)
 
@@ -119,7 +115,7 @@ is_put old name rung gates inside entry draft answer named same home gate (word,
     let kept : IsAnswered (put_of old) right.at draft answer = subst (λ (v : PutView). IsAnswered v right.at draft answer) (sym (ap (λ (h : Option LineSeat). (right_in h).at) home)) put in
     subst (λ (e : Option (EntrySeat LineSeat)). IsPosted old (record { name = name; entry = entry_in e; rung = rung; left = gates }) draft answer) (sym left) (is_answered old here draft answer stays kept)
 
-module _ (old here : StandSeat) (draft kept : Draft) (found : Refusal) (tried : IsTried old here draft (Turned found kept)) where
+module _ (old here : StandSeat) (draft : Draft) (lent : Option Draft) (found : Refusal) (tried : IsTried old here lent (Turned found)) where
   goes_from : (new : StandSeat) → GoesTo here new → GoesTo old new
   goes_from new goes = record {
     hops = goes.hops;
@@ -146,21 +142,26 @@ module _ (old here : StandSeat) (draft kept : Draft) (found : Refusal) (tried : 
   is_seen refusal.Closed s = s
 
   -- a post goes on from where the line was turned
-  pub is_posted : (new : StandSeat) (answer : Result Posted (PostError × Draft)) → IsPostedOnward here new found kept answer → IsPosted old new draft answer
-  is_posted new (Ok posted) (before, unused, put) = (before, 0, inr (goes_from new unused.goes, unused.named, unused.unused, refl), subst (λ (d : Draft). IsPut before (put_of new) d (Ok posted)) tried.2 put)
+  pub is_posted : (new : StandSeat) (answer : Result Posted (PostError × Draft)) → IsPostedOnward here new found draft answer → IsPosted old new draft answer
+  is_posted new (Ok posted) (before, unused, put) = (before, 0, inr (goes_from new unused.goes, unused.named, unused.unused, refl), put)
   is_posted new (Err refused) (back, onward) = ⊎_elim
       (λ ended. (
         put_of old,
         old.entry.at.enters,
         inl (subst (λ (s : StandSeat). StaysAt old s) (sym ended.0) tried.0, refl, refl),
         subst (PutsNothing (put_of old) (put_of new)) (sym ended.1) (nothing_put found (put_of old) (put_of new) (ap put_of ended.0 ∙ tried.1)),
-        back ∙ tried.2,
-        subst (λ (e : PostError). IsSeen new old.entry.at.enters e) (sym ended.1) (subst (λ (s : StandSeat). IsSeen s old.entry.at.enters (error_of found)) (sym ended.0) (is_seen found tried.3)),
+        back,
+        subst (λ (e : PostError). IsSeen new old.entry.at.enters e) (sym ended.1) (subst (λ (s : StandSeat). IsSeen s old.entry.at.enters (error_of found)) (sym ended.0) (is_seen found tried.2)),
       ))
-      (λ far. (far.0, 0, inr (goes_from new far.1.goes, far.1.named, far.1.unused, refl), far.2, back ∙ tried.2, far.3))
+      (λ far. (far.0, 0, inr (goes_from new far.1.goes, far.1.named, far.1.unused, refl), far.2, back, far.3))
       onward
 
   -- and what its bell had done before is nothing
-  pub rung_onward : (new : StandSeat) (answer : Result Posted (PostError × Draft)) → IsPostedOnward here new found kept answer → RingsOnward new answer → HasRung old new answer
+  pub rung_onward : (new : StandSeat) (answer : Result Posted (PostError × Draft)) → IsPostedOnward here new found draft answer → RingsOnward new answer → HasRung old new answer
   rung_onward new (Ok posted) (before, unused, put) rung = (silent, inr (goes_from new unused.goes, refl), rung)
   rung_onward new (Err refused) onward rung = tt
+
+-- a post that was let in where its line stands has rung there
+pub rung_here : (old here : StandSeat) (answer : Result Posted PostError) (lent : Option Draft) → StaysAt old here → RingsTried old here (Answered answer) → HasRung old here (answer_back answer lent)
+rung_here old here (Ok posted) lent stays rung = (old.rung, inl (stays, refl), rung)
+rung_here old here (Err why) lent stays rung = tt

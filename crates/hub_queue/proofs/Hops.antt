@@ -155,10 +155,10 @@ told_answered o after from to hops old new draft answer named answered told =
     ∙ ap (λ (h : ℕ). told_more o (points_onward h answer)) (sym many)
 
 -- of a whole post that was let in where the line stood
-pub told_here : (o before after : Option (List Point)) (name to : Key) (old new : PutView) (draft : Draft) (answer : Result Posted (PostError × Draft)) → to ≡ name → IsAnswered old new draft answer → before ≡ told_more o (Before ∷ []) → after ≡ told_more before points_inside → after ≡ told_more o (points_of name to answer)
-told_here o before after name to old new draft answer same answered was inside =
+pub told_here : (o after : Option (List Point)) (name to : Key) (old new : PutView) (draft : Draft) (answer : Result Posted (PostError × Draft)) → to ≡ name → IsAnswered old new draft answer → after ≡ told_more o (Before ∷ points_inside) → after ≡ told_more o (points_of name to answer)
+told_here o after name to old new draft answer same answered inside =
     let none : hops_between name to ≡ 0 = hops_are name to 0 (same ∙ name_here name) in
-    told_let_in o before after was inside
+    inside
     ∙ ap (λ (l : List Point). told_more o (Before ∷ l)) (sym (at_last_inside 0 old new draft answer answered) ∙ ap (λ (h : ℕ). points_onward h answer) (sym none))
 
 -- of one that was turned there, and went on

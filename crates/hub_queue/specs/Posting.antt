@@ -73,5 +73,5 @@ PutsNothing before now OutOfMemory = HadNoRoom before now
 
 -- Ok: what the line has put in the queue named by the answer is what it had put there, followed by the draft under that name. Err: it has put nothing more, and the draft comes back. Nowhere else has it put anything.
 abbrev pub IsPosted : StandSeat → StandSeat → Draft → Result Posted (PostError × Draft) → Type 0
-IsPosted old new draft (Ok posted) = (before : PutView) × (entered : ℕ) × StoodAs old new before entered × IsPut before (put_of new) draft (Ok posted)
+IsPosted old new draft (Ok posted) = (before : PutView) × (entered : ℕ) × StoodAs old new before entered × IsPut before (put_of new) draft posted
 IsPosted old new draft (Err refused) = (before : PutView) × (entered : ℕ) × StoodAs old new before entered × PutsNothing before (put_of new) refused.0 × (refused.1 ≡ draft) × IsSeen new entered refused.0

@@ -23,7 +23,7 @@ IsRungAt s before = IsRungWhere before s.rung s.name.end s.entry.at.left
 -- of one attempt at one queue: a line that was turned has not rung
 abbrev pub RingsTried : StandSeat → StandSeat → Tried → Type 0
 RingsTried old new (Answered answer) = IsRungAt new old.rung
-RingsTried old new (Turned found back) = new.rung ≡ old.rung
+RingsTried old new (Turned found) = new.rung ≡ old.rung
 
 -- of a line that goes on: where it was let in at a later queue, its bell there had never rung before
 abbrev pub RingsOnward : StandSeat → Result Posted (PostError × Draft) → Type 0

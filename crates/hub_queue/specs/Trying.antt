@@ -12,13 +12,13 @@ use Rattle.hub_queue.specs.declared.error.PostError.{PostError}
 use Rattle.hub_queue.specs.declared.error.PostError.TheVariants.{Closed, Moving, OutOfMemory}
 use Rattle.hub_queue.specs.declared.store.PutView.{PutView}
 use Rattle.hub_queue.specs.Posting.{StaysAt, GoesTo, HasSeen, IsSeen, PutsNothing}
-use Rattle.hub_queue.specs.Putting.{IsPut, HadNoRoom}
+use Rattle.hub_queue.specs.Putting.{IsPut, HadNoRoom, LeavesDraft, answer_back, draft_in}
 use Rattle.hub_queue.specs.Seats.{LineSeat, IsNameOf}
 use Rattle.hub_queue.specs.Standing.{StandSeat, HasNotPushed, put_of}
 
 -- the draft was put, or there was no memory for it
 abbrev pub IsAnswered : PutView → PutView → Draft → Result Posted (PostError × Draft) → Type 0
-IsAnswered old new draft (Ok posted) = IsPut old new draft (Ok posted)
+IsAnswered old new draft (Ok posted) = IsPut old new draft posted
 IsAnswered old new draft (Err refused) = HadNoRoom old new × (refused.1 ≡ draft) × (refused.0 ≡ OutOfMemory)
 
 -- the line has left with the right that it had inside, by which the draft was put or not
@@ -26,9 +26,14 @@ abbrev pub IsPutInside : InsideSeat LineSeat → Option (EntrySeat LineSeat) →
 IsPutInside inside entry draft answer = (word : ℕ) × (right : LineSeat) × (entry ≡ Some (left_seat (with_right inside right) word)) × (right.queue ≡ inside.right.queue) × IsAnswered inside.right.at right.at draft answer
 
 -- The line stays where it stands. The draft was put, or there was no memory for it, or the line was turned.
-abbrev pub IsTried : StandSeat → StandSeat → Draft → Tried → Type 0
-IsTried old new draft (Answered answer) = StaysAt old new × IsAnswered (put_of old) (put_of new) draft answer
-IsTried old new draft (Turned found back) = StaysAt old new × (put_of new ≡ put_of old) × (back ≡ draft) × HasSeen new old.entry.at.enters found
+abbrev pub IsTried : StandSeat → StandSeat → Option Draft → Tried → Type 0
+IsTried old new lent (Answered answer) = StaysAt old new × IsAnswered (put_of old) (put_of new) (draft_in lent) (answer_back answer lent)
+IsTried old new lent (Turned found) = StaysAt old new × (put_of new ≡ put_of old) × HasSeen new old.entry.at.enters found
+
+-- of a lent draft: what was accepted is gone, and else it is there as it was
+abbrev pub LeavesTried : Tried → Option Draft → Option Draft → Type 0
+LeavesTried (Answered answer) old new = LeavesDraft answer old new
+LeavesTried (Turned found) old new = new ≡ old
 
 -- the line stands at the next queue, and keeps what shows the gate that it has left
 abbrev pub gone_to : StandSeat → StandSeat → StandSeat
@@ -47,5 +52,5 @@ error_of refusal.Closed = Closed
 
 -- A line that was turned goes on. Ok: at a later queue, where the draft is all that it has put. Err: the draft comes back, and the line stands where it was turned, or at a later queue where it has put nothing.
 abbrev pub IsPostedOnward : StandSeat → StandSeat → Refusal → Draft → Result Posted (PostError × Draft) → Type 0
-IsPostedOnward turned new found draft (Ok posted) = (before : PutView) × GoesToUnused turned new before × IsPut before (put_of new) draft (Ok posted)
+IsPostedOnward turned new found draft (Ok posted) = (before : PutView) × GoesToUnused turned new before × IsPut before (put_of new) draft posted
 IsPostedOnward turned new found draft (Err refused) = (refused.1 ≡ draft) × (((new ≡ turned) × (refused.0 ≡ error_of found)) ⊎ ((before : PutView) × GoesToUnused turned new before × PutsNothing before (put_of new) refused.0 × IsSeen new 0 refused.0))

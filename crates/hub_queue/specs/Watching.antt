@@ -24,7 +24,7 @@ points_inside = Inside ∷ Pushed ∷ []
 -- of one attempt at one queue
 abbrev pub points_tried : Tried → List Point
 points_tried (Answered answer) = Before ∷ points_inside
-points_tried (Turned found back) = Before ∷ []
+points_tried (Turned found) = Before ∷ []
 
 -- of a line that goes on so often, and each time comes before another gate
 abbrev pub points_hopping : ℕ → List Point

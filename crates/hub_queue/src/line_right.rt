@@ -1,11 +1,13 @@
-ghost use Rattle.std.specs.Prelude.{◌≡◌};
+ghost use Rattle.std.specs.Prelude.{◌≡◌, IsSome};
 ghost use Rattle.crossbeam_queue.specs.SegSteps.{IsRefused};
 ghost use Rattle.crossbeam_queue.specs.SegTies.{IsSegPassOf};
 ghost use Rattle.hub_queue.specs.declared.store.PassView.TheVariants.{Puts};
 ghost use Rattle.hub_queue.specs.PassSteps.{refused_more};
-ghost use Rattle.hub_queue.specs.Putting.{IsPut, unnamed};
+ghost use Rattle.hub_queue.specs.Putting.{LeavesDraft, answer_back, draft_in, unnamed};
 ghost use Rattle.hub_queue.specs.Seats.{IsNameOf, known_by, put_view};
+ghost use Rattle.hub_queue.specs.Trying.{IsAnswered};
 
+use crate::error::PostError;
 use crate::queue_rule::{CountRefusal, Put};
 use crate::store::{Pass, Store};
 use hub_depot::Key;
@@ -87,19 +89,28 @@ fn count_refusal(store: &Store, pass: &mut Pass)
 
 impl LineRight {
     /// Puts the draft in the queue, under the next name of the line. `name` is the line's name at
-    /// this queue. `Err`: there was no memory, or the line has put `MAX_PUT` envelopes there. The
-    /// draft comes back, and nothing was put.
+    /// this queue. `OutOfMemory`: there was no memory, or the line has put `MAX_PUT` envelopes
+    /// there. Then the draft is where it was, and nothing was put.
     #[inline(always)]
-    pub(crate) fn put<R: Wait>(&mut self, rt: &R, name: Key, draft: Draft) -> Result<Posted, Draft>
-        requires { IsNameOf self.old.at name }
+    pub(crate) fn put<R: Wait>(
+        &mut self,
+        rt: &R,
+        name: Key,
+        lent: &mut Option<Draft>,
+    ) -> Result<Posted, PostError>
+        requires name { IsNameOf self.old.at name }
+        requires draft { IsSome lent.old }
         ensures queue { self.new.queue ≡ self.old.queue }
-        ensures put { IsPut self.old.at self.new.at draft result }
+        ensures put { IsAnswered self.old.at self.new.at (draft_in lent.old)
+            (answer_back result lent.old) }
+        ensures left { LeavesDraft result lent.old lent.new }
     {
         let number = self.number;
         if number >= MAX_PUT {
-            return Err(draft);
+            return Err(PostError::OutOfMemory);
         }
         let Key { end, epoch, line } = name;
+        let draft = lent.take().unwrap();
         let envelope = Envelope {
             end,
             epoch,
@@ -126,7 +137,8 @@ impl LineRight {
             }
             Err(envelope) => {
                 count_refusal(&self.store, &mut self.pass);
-                Err(draft_of(envelope))
+                *lent = Some(draft_of(envelope));
+                Err(PostError::OutOfMemory)
             }
         }
     }

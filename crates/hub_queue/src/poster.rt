@@ -1,5 +1,6 @@
-ghost use Rattle.std.specs.Prelude.{◌≡◌};
+ghost use Rattle.std.specs.Prelude.{◌≡◌, IsSome};
 ghost use Rattle.hub_queue.specs.Posting.{IsPosted};
+ghost use Rattle.hub_queue.specs.Putting.{LeavesDraft, answer_back, draft_in};
 ghost use Rattle.hub_queue.specs.Rings.{HasRung};
 ghost use Rattle.hub_queue.specs.Watching.{points_of, told_more};
 ghost use Rattle.hub_queue.specs.Yards.{IsHoppedOver};
@@ -7,7 +8,7 @@ ghost use Rattle.hub_queue.specs.Yards.{IsHoppedOver};
 use crate::error::PostError;
 use crate::onward::Onward;
 use crate::pause::{NoPause, Pause, Paused, Point};
-use crate::stand::Stand;
+use crate::stand::{Stand, Tried};
 use hub_depot::{Depot, Kept, Key};
 use hub_envelope::{Draft, Posted};
 use hub_locked::{Hears, Lends};
@@ -68,10 +69,32 @@ impl Poster {
         ensures rung { HasRung self.old self.new result }
     {
         let (mut lender, mut heard) = (yard.lock(), Paused(pause));
-        self.post_on(rt, &mut lender, draft, &mut heard)
+        let mut lent = Some(draft);
+        match self.post_on(rt, &mut lender, &mut lent, &mut heard) {
+            Ok(posted) => Ok(posted),
+            Err(error) => Err((error, lent.unwrap())),
+        }
     }
 
-    /// The same, over a yard that anybody lends, and told to anybody.
+    /// `post`, of a draft that is lent. It is gone once it is accepted; after an error it is there
+    /// as it was.
+    pub fn post_lent<R: Wait>(
+        &mut self,
+        rt: &R,
+        yard: &Depot<Onward>,
+        lent: &mut Option<Draft>,
+    ) -> Result<Posted, PostError>
+        requires { IsSome lent.old }
+        ensures posted { IsPosted self.old self.new (draft_in lent.old)
+            (answer_back result lent.old) }
+        ensures left { LeavesDraft result lent.old lent.new }
+        ensures rung { HasRung self.old self.new (answer_back result lent.old) }
+    {
+        let (mut lender, mut heard) = (yard.lock(), Paused(&NoPause));
+        self.post_on(rt, &mut lender, lent, &mut heard)
+    }
+
+    /// `post_lent`, over a yard that anybody lends, and told to anybody.
     ///
     /// Of a yard that is shown: the line takes out of it the stands at the queues that
     /// it goes on to, and no other. `Moving` comes after `MAX_HOPS` of them, or where the yard has
@@ -81,16 +104,22 @@ impl Poster {
         &mut self,
         rt: &R,
         yard: &mut L,
-        draft: Draft,
+        lent: &mut Option<Draft>,
         heard: &mut H,
-    ) -> Result<Posted, (PostError, Draft)>
-        ensures posted { IsPosted self.old self.new draft result }
-        ensures rung { HasRung self.old self.new result }
+    ) -> Result<Posted, PostError>
+        requires { IsSome lent.old }
+        ensures posted { IsPosted self.old self.new (draft_in lent.old)
+            (answer_back result lent.old) }
+        ensures left { LeavesDraft result lent.old lent.new }
+        ensures rung { HasRung self.old self.new (answer_back result lent.old) }
         ensures yard { IsHoppedOver (L.shown yard.old) (L.shown yard.new)
-            self.old.name self.new result }
-        ensures told { H.told heard.new
-            ≡ told_more (H.told heard.old) (points_of self.old.name self.new.name result) }
+            self.old.name self.new (answer_back result lent.old) }
+        ensures told { H.told heard.new ≡ told_more (H.told heard.old)
+            (points_of self.old.name self.new.name (answer_back result lent.old)) }
     {
-        self.stand.post(rt, yard, draft, heard)
+        match self.stand.try_post(rt, lent, heard) {
+            Tried::Answered(answer) => answer,
+            Tried::Turned(refusal) => self.stand.post_onward(rt, yard, refusal, lent, heard),
+        }
     }
 }

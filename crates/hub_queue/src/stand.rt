@@ -1,12 +1,18 @@
 //! A post: enter the gate, put the draft, leave; and go on where the queue is retired.
 
-ghost use Rattle.std.specs.Prelude.{◌≡◌};
-ghost use Rattle.hub_queue.specs.Trying.{gone_to, IsPostedOnward, IsPutInside, IsTried};
-ghost use Rattle.hub_queue.specs.Posting.{IsPosted};
-ghost use Rattle.hub_queue.specs.Rings.{HasRung, IsRungWhere, RingsOnward, RingsTried};
+ghost use Rattle.std.specs.Prelude.{◌≡◌, IsSome};
+ghost use Rattle.hub_queue.specs.Putting.{LeavesDraft, answer_back, draft_in};
+ghost use Rattle.hub_queue.specs.Rings.{IsRungWhere, RingsOnward, RingsTried};
 ghost use Rattle.hub_queue.specs.Seats.{IsNameOf, tag_of};
 ghost use Rattle.hub_queue.specs.Standing.{entry_in};
-ghost use Rattle.hub_queue.specs.Watching.{points_inside, points_of, points_onward, points_tried};
+ghost use Rattle.hub_queue.specs.Trying.{
+  IsPostedOnward,
+  IsPutInside,
+  IsTried,
+  LeavesTried,
+  gone_to,
+};
+ghost use Rattle.hub_queue.specs.Watching.{points_inside, points_onward, points_tried};
 ghost use Rattle.hub_queue.specs.Watching.{told_more};
 ghost use Rattle.hub_queue.specs.Yards.{IsHoppedOver, hops_between};
 
@@ -98,14 +104,13 @@ impl Stand {
 #[derive(Drop)]
 pub(crate) enum Tried {
     /// The draft was accepted, or there was no memory.
-    Answered(Result<Posted, (PostError, Draft)>),
+    Answered(Result<Posted, PostError>),
     /// The line was turned.
-    Turned(Refusal, Draft),
+    Turned(Refusal),
 }
 
 /// Puts the draft, leaves, and puts the entry back in its place. Whoever has left an enabled gate
-/// rings the bell. It is inlined, and so are `Stand::post` and `LineRight::put`, since drafts and
-/// answers are large and each call copies them.
+/// rings the bell.
 #[inline(always)]
 fn post_inside<H: Hears<Point>, R: Wait>(
     rt: &R,
@@ -113,33 +118,40 @@ fn post_inside<H: Hears<Point>, R: Wait>(
     name: Key,
     kept: &mut Option<Entry<LineRight>>,
     bell: &mut Bell,
-    draft: Draft,
+    lent: &mut Option<Draft>,
     heard: &mut H,
-) -> Result<Posted, (PostError, Draft)>
+) -> Result<Posted, PostError>
     requires name { IsNameOf inside.right.at name }
     requires tag { tag_of inside.right ≡ inside.at.tag }
-    ensures put { IsPutInside inside kept.new draft result }
+    requires draft { IsSome lent.old }
+    ensures put { IsPutInside inside kept.new (draft_in lent.old) (answer_back result lent.old) }
+    ensures left { LeavesDraft result lent.old lent.new }
     ensures rung { IsRungWhere bell.old.at bell.new.at name.end (entry_in kept.new).at.left }
     ensures told { H.told heard.new ≡ told_more (H.told heard.old) points_inside }
 {
     heard.tell(rt, Point::Inside);
-    let put = inside.right_mut().put(rt, name, draft);
+    let put = inside.right_mut().put(rt, name, lent);
     heard.tell(rt, Point::Pushed);
     let (entry, enabled) = inside.leave();
     *kept = Some(entry);
     if enabled {
         bell.ring(name.end);
     }
-    match put {
-        Ok(posted) => Ok(posted),
-        Err(draft) => Err((PostError::OutOfMemory, draft)),
-    }
+    put
 }
 
 impl Stand {
     /// Posts at the queue where the line stands.
-    fn try_post<H: Hears<Point>, R: Wait>(&mut self, rt: &R, draft: Draft, heard: &mut H) -> Tried
-        ensures tried { IsTried self.old self.new draft result }
+    #[inline(always)]
+    pub(crate) fn try_post<H: Hears<Point>, R: Wait>(
+        &mut self,
+        rt: &R,
+        lent: &mut Option<Draft>,
+        heard: &mut H,
+    ) -> Tried
+        requires { IsSome lent.old }
+        ensures tried { IsTried self.old self.new lent.old result }
+        ensures left { LeavesTried result lent.old lent.new }
         ensures rung { RingsTried self.old self.new result }
         ensures told { H.told heard.new ≡ told_more (H.told heard.old) (points_tried result) }
     {
@@ -147,87 +159,57 @@ impl Stand {
         let (name, bell) = (self.name, &mut self.bell);
         match self.entry.take().unwrap().enter() {
             Entered::In(inside) => {
-                let answer = post_inside(rt, inside, name, &mut self.entry, bell, draft, heard);
-                Tried::Answered(answer)
+                let kept = &mut self.entry;
+                Tried::Answered(post_inside(rt, inside, name, kept, bell, lent, heard))
             }
             Entered::Turned(entry, refusal) => {
                 self.entry = Some(entry);
-                Tried::Turned(refusal, draft)
+                Tried::Turned(refusal)
             }
         }
     }
 
-    /// Posts the draft, and goes on to the next queue where the one where the line stands was
-    /// retired, at most `MAX_HOPS` times.
-    // It doesn't call `try_post`, since what that comes to would be copied once more.
-    #[inline(always)]
-    pub(crate) fn post<L: Lends<Kept<Onward>>, H: Hears<Point>, R: Wait>(
-        &mut self,
-        rt: &R,
-        yard: &mut L,
-        draft: Draft,
-        heard: &mut H,
-    ) -> Result<Posted, (PostError, Draft)>
-        ensures posted { IsPosted self.old self.new draft result }
-        ensures rung { HasRung self.old self.new result }
-        ensures yard { IsHoppedOver (L.shown yard.old) (L.shown yard.new)
-            self.old.name self.new result }
-        ensures told { H.told heard.new
-            ≡ told_more (H.told heard.old) (points_of self.old.name self.new.name result) }
-    {
-        heard.tell(rt, Point::Before);
-        let (name, bell) = (self.name, &mut self.bell);
-        match self.entry.take().unwrap().enter() {
-            Entered::In(inside) => {
-                post_inside(rt, inside, name, &mut self.entry, bell, draft, heard)
-            }
-            Entered::Turned(entry, refusal) => {
-                self.entry = Some(entry);
-                self.post_onward(rt, yard, refusal, draft, heard)
-            }
-        }
-    }
-
-    /// Goes on from where the line was turned. It isn't inlined, so that a post at the queue where
-    /// its line stands doesn't pay for it.
+    /// Goes on from where the line was turned, to the next queue where that one was retired, at
+    /// most `MAX_HOPS` times. It isn't inlined, so that a post at the queue where its line stands
+    /// doesn't pay for it.
     #[inline(never)]
-    fn post_onward<L: Lends<Kept<Onward>>, H: Hears<Point>, R: Wait>(
+    pub(crate) fn post_onward<L: Lends<Kept<Onward>>, H: Hears<Point>, R: Wait>(
         &mut self,
         rt: &R,
         yard: &mut L,
         refusal: Refusal,
-        draft: Draft,
+        lent: &mut Option<Draft>,
         heard: &mut H,
-    ) -> Result<Posted, (PostError, Draft)>
-        ensures posted { IsPostedOnward self.old self.new refusal draft result }
-        ensures rung { RingsOnward self.new result }
+    ) -> Result<Posted, PostError>
+        requires { IsSome lent.old }
+        ensures posted { IsPostedOnward self.old self.new refusal (draft_in lent.old)
+            (answer_back result lent.old) }
+        ensures left { LeavesDraft result lent.old lent.new }
+        ensures rung { RingsOnward self.new (answer_back result lent.old) }
         ensures yard { IsHoppedOver (L.shown yard.old) (L.shown yard.new)
-            self.old.name self.new result }
+            self.old.name self.new (answer_back result lent.old) }
         ensures told { H.told heard.new ≡ told_more (H.told heard.old)
-            (points_onward (hops_between self.old.name self.new.name) result) }
+            (points_onward (hops_between self.old.name self.new.name)
+            (answer_back result lent.old)) }
     {
         let mut found = refusal;
-        let mut draft = draft;
         for _hop in 0..MAX_HOPS {
             if found == Refusal::Closed {
-                return Err((PostError::Closed, draft));
+                return Err(PostError::Closed);
             }
             heard.tell(rt, Point::Hopping);
             let Some(next) = next_stand(rt, yard, self.name) else {
-                return Err((PostError::Moving, draft));
+                return Err(PostError::Moving);
             };
             self.go_to(next);
-            match self.try_post(rt, draft, heard) {
+            match self.try_post(rt, lent, heard) {
                 Tried::Answered(answer) => return answer,
-                Tried::Turned(refusal, back) => {
-                    found = refusal;
-                    draft = back;
-                }
+                Tried::Turned(refusal) => found = refusal,
             }
         }
         match found {
-            Refusal::Moved => Err((PostError::Moving, draft)),
-            Refusal::Closed => Err((PostError::Closed, draft)),
+            Refusal::Moved => Err(PostError::Moving),
+            Refusal::Closed => Err(PostError::Closed),
         }
     }
 }
