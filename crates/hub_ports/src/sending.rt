@@ -71,16 +71,16 @@ fn send_alone<R: Wait>(
     ensures many { IsErrOf result SendRefusal.TooManyPorts → ⊥ }
     ensures doomed { IsErrOf result SendRefusal.Doomed → ⊥ }
 {
-    let draft = Draft {
+    let mut lent = Some(Draft {
         agent,
         body: parcel.body.take().unwrap(),
         ports: Ports::none(hub.alloc),
         notice: false,
-    };
-    match line.post(rt, &hub.yard, draft) {
+    });
+    match line.post_lent(rt, &hub.yard, &mut lent) {
         Ok(posted) => Ok(posted),
-        Err((error, draft)) => {
-            parcel.body = Some(draft.body);
+        Err(error) => {
+            parcel.body = Some(lent.unwrap().body);
             Err(SendRefusal::of_line(error))
         }
     }
@@ -126,15 +126,16 @@ fn post_with_ports<L: Lends<Kept<Port>>, R: Wait>(
     let Ok(listed) = Ports::of_list(numbers) else {
         unreachable!();
     };
-    let draft = Draft {
+    let mut lent = Some(Draft {
         agent,
         body: body.take().unwrap(),
         ports: listed,
         notice: false,
-    };
-    match line.post(rt, &hub.yard, draft) {
+    });
+    match line.post_lent(rt, &hub.yard, &mut lent) {
         Ok(posted) => Ok(posted),
-        Err((error, draft)) => {
+        Err(error) => {
+            let draft = lent.unwrap();
             let listed = draft.ports;
             call_back(rt, flight, listed.as_slice(), ports, missing);
             *body = Some(draft.body);

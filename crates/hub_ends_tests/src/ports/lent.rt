@@ -125,12 +125,12 @@ fn each_step_of_a_closing_is_told(rt: HostRuntime) {
 fn hops<L: Lends<Kept<Onward>>, R: Wait>(rt: &R, alloc: Global, yard: &mut L) -> Option<bool> {
     let (taker, mut poster) = mailbox(alloc, 0)?;
     let mut told = Vec::<Point>::new(alloc);
-    let mut lent = draft(alloc, AgentId(0), "1");
+    let mut lent = Some(draft(alloc, AgentId(0), "1")?);
     let first = poster.post_on(rt, yard, &mut lent, &mut told);
     let is_first = matches!(first, Ok(posted) if posted.epoch == 0);
     let moved = taker.adopt_on(rt, yard, bell(alloc)?).ok()?;
-    let mut lent_next = draft(alloc, AgentId(0), "2");
-    let second = poster.post_on(rt, yard, &mut lent_next, &mut told);
+    let mut lent = Some(draft(alloc, AgentId(0), "2")?);
+    let second = poster.post_on(rt, yard, &mut lent, &mut told);
     let is_second = matches!(second, Ok(posted) if posted.epoch == 1);
     let are_told = matches!(
         told.as_slice(),
