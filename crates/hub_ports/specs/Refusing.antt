@@ -3,6 +3,7 @@ use Rattle.std.specs.Prelude.{◌≡◌, ℕ, List, [], Option, Some, None, Resu
 use Rattle.hub_envelope.specs.declared.posted.Posted.{Posted}
 use Rattle.hub_queue.specs.declared.error.PostError.{PostError}
 use Rattle.hub_queue.specs.declared.error.PostError.TheVariants as why
+use Rattle.hub_queue.specs.Putting.{lent_list}
 use Rattle.hub_ports.specs.declared.closing.Closing.{Closing}
 use Rattle.hub_ports.specs.declared.error.PortError.{PortError}
 use Rattle.hub_ports.specs.declared.error.PortError.TheVariants as error
@@ -22,14 +23,9 @@ IsOfFlight OutOfMemory = Unit {0}
 IsOfFlight Taken = Unit {0}
 IsOfFlight _ = ⊥
 
--- the text of a body that may be gone
-abbrev pub carried_text : Option (List ℕ) → List ℕ
-carried_text None = []
-carried_text (Some text) = text
-
 -- the text of the body in a parcel
 abbrev pub carried_body : Parcel → List ℕ
-carried_body parcel = carried_text parcel.body
+carried_body parcel = lent_list parcel.body
 
 -- the error that tells of a refusal what came back in the parcel, and which ports were closed
 abbrev pub error_with : SendRefusal → Parcel → List Closing → PortError

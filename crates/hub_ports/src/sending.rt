@@ -16,9 +16,9 @@ use crate::hub::Hub;
 use crate::parcel::Parcel;
 use crate::port::Port;
 use hub_depot::Kept;
-use hub_envelope::{AgentId, Body, Draft, EndId, MAX_PORTS, OutOfMemory, Ports};
+use hub_envelope::{AgentId, Body, EndId, MAX_PORTS, OutOfMemory, Ports};
 use hub_locked::Lends;
-use hub_queue::{Posted, Poster};
+use hub_queue::{Head, Posted, Poster};
 use std::alloc::Global;
 use std::mem::replace;
 use std::sync::Wait;
@@ -71,18 +71,14 @@ fn send_alone<R: Wait>(
     ensures many { IsErrOf result SendRefusal.TooManyPorts → ⊥ }
     ensures doomed { IsErrOf result SendRefusal.Doomed → ⊥ }
 {
-    let mut lent = Some(Draft {
+    let head = Head {
         agent,
-        body: parcel.body.take().unwrap(),
-        ports: Ports::none(hub.alloc),
         notice: false,
-    });
-    match line.post_lent(rt, &hub.yard, &mut lent) {
+    };
+    let mut none = Some(Ports::none(hub.alloc));
+    match line.post_lent(rt, &hub.yard, head, &mut parcel.body, &mut none) {
         Ok(posted) => Ok(posted),
-        Err(error) => {
-            parcel.body = Some(lent.unwrap().body);
-            Err(SendRefusal::of_line(error))
-        }
+        Err(error) => Err(SendRefusal::of_line(error)),
     }
 }
 
@@ -126,19 +122,16 @@ fn post_with_ports<L: Lends<Kept<Port>>, R: Wait>(
     let Ok(listed) = Ports::of_list(numbers) else {
         unreachable!();
     };
-    let mut lent = Some(Draft {
+    let head = Head {
         agent,
-        body: body.take().unwrap(),
-        ports: listed,
         notice: false,
-    });
-    match line.post_lent(rt, &hub.yard, &mut lent) {
+    };
+    let mut listed = Some(listed);
+    match line.post_lent(rt, &hub.yard, head, body, &mut listed) {
         Ok(posted) => Ok(posted),
         Err(error) => {
-            let draft = lent.unwrap();
-            let listed = draft.ports;
+            let listed = listed.unwrap();
             call_back(rt, flight, listed.as_slice(), ports, missing);
-            *body = Some(draft.body);
             Err(refused(SendRefusal::of_line(error), missing.as_slice()))
         }
     }

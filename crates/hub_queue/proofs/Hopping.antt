@@ -8,17 +8,23 @@ use Rattle.hub_gate.specs.declared.entry.Refusal.{Refusal}
 use Rattle.hub_gate.specs.declared.entry.Refusal.TheVariants as refusal
 use Rattle.hub_gate.specs.Entering.{left_seat}
 use Rattle.hub_gate.specs.GateSeats.{EntrySeat, InsideSeat, with_right}
+use Rattle.hub_envelope.specs.declared.ids.EndId.{EndId}
+use Rattle.hub_queue.specs.declared.line_right.Head.{Head}
 use Rattle.hub_queue.specs.declared.store.PutView.{PutView}
 use Rattle.hub_envelope.specs.declared.posted.Posted.{Posted}
 use Rattle.hub_queue.specs.declared.stand.Tried.TheVariants.{Answered, Turned}
 use Rattle.hub_queue.specs.declared.error.PostError.{PostError}
 use Rattle.hub_queue.specs.Posting.{StaysAt, name_after, HasPassed, LeavesBehind, GoesTo, HasSeen, IsSeen, PutsNothing, IsPosted}
-use Rattle.hub_queue.specs.Putting.{answer_back, draft_in}
+use Rattle.hub_queue.specs.Putting.{answer_back, lent_draft}
 use Rattle.hub_queue.specs.Seats.{LineSeat, IsNameOf}
 use Rattle.hub_bell.specs.Seats.{Done, silent}
 use Rattle.hub_queue.specs.Rings.{HasRung, RingsOnward, RingsTried}
 use Rattle.hub_queue.specs.Standing.{StandSeat, FollowsStand, HasNotPushed, put_of, right_in, right_of, entry_in}
 use Rattle.hub_queue.specs.Trying.{IsAnswered, IsPutInside, IsTried, gone_to, GoesToUnused, IsPostedOnward, error_of}
+
+-- what is lent is the same draft for as long as it is the same
+pub same_lent : (head : Head) {body was : Option (List ℕ)} {ports were : Option (List EndId)} → body ≡ was → ports ≡ were → lent_draft head body ports ≡ lent_draft head was were
+same_lent head said sent = λ i. lent_draft head (said i) (sent i)
 
 -- what is left behind is left of as many gates as are looked at
 kept_of : (old : StandSeat) (hops n : ℕ) (left : List (Option (EntrySeat LineSeat))) → hops ≤ n → LeavesBehind old hops left → LeavesBehind old hops (take n left)
@@ -65,8 +71,8 @@ module _ (turned here next : StandSeat) (hops : ℕ) (first found : Refusal) (go
           ((here.entry, refl, subst (IsNameOf (put_of here)) (gone.name ∙ ap (name_after turned.name) (sym same)) been.0, been.1), rest (suc n) same low)
 
   -- and is turned there too
-  pub gone_more : (now : StandSeat) (lent : Option Draft) (again : Refusal) → IsTried there now lent (Turned again) → GoneOn turned now (hops + 1) first again
-  gone_more now lent again tried = record {
+  pub gone_more : (now : StandSeat) (draft : Draft) (again : Refusal) → IsTried there now draft (Turned again) → GoneOn turned now (hops + 1) first again
+  gone_more now draft again tried = record {
     name = tried.0.name ∙ name_there;
     left = subst (LeavesBehind turned (hops + 1)) (sym tried.0.left) left_there;
     none = λ none. absurd (omega arith);
@@ -86,9 +92,9 @@ module _ (turned here next : StandSeat) (hops : ℕ) (first found : Refusal) (go
   }
 
   -- or the post is answered there
-  pub answered_there : (now : StandSeat) (lent : Option Draft) (answer : Result Posted PostError) → IsTried there now lent (Answered answer) → IsPostedOnward turned now first (draft_in lent) (answer_back answer lent)
-  answered_there now lent (Ok posted) tried = (put_of there, unused_at now tried.0, tried.1)
-  answered_there now lent (Err why) tried = (
+  pub answered_there : (now : StandSeat) (draft : Draft) (answer : Result Posted PostError) → IsTried there now draft (Answered answer) → IsPostedOnward turned now first draft (answer_back answer draft)
+  answered_there now draft (Ok posted) tried = (put_of there, unused_at now tried.0, tried.1)
+  answered_there now draft (Err why) tried = (
     refl,
     inr (
       put_of there,
@@ -115,7 +121,7 @@ is_put old name rung gates inside entry draft answer named same home gate (word,
     let kept : IsAnswered (put_of old) right.at draft answer = subst (λ (v : PutView). IsAnswered v right.at draft answer) (sym (ap (λ (h : Option LineSeat). (right_in h).at) home)) put in
     subst (λ (e : Option (EntrySeat LineSeat)). IsPosted old (record { name = name; entry = entry_in e; rung = rung; left = gates }) draft answer) (sym left) (is_answered old here draft answer stays kept)
 
-module _ (old here : StandSeat) (draft : Draft) (lent : Option Draft) (found : Refusal) (tried : IsTried old here lent (Turned found)) where
+module _ (old here : StandSeat) (draft : Draft) (found : Refusal) (tried : IsTried old here draft (Turned found)) where
   goes_from : (new : StandSeat) → GoesTo here new → GoesTo old new
   goes_from new goes = record {
     hops = goes.hops;
@@ -162,6 +168,6 @@ module _ (old here : StandSeat) (draft : Draft) (lent : Option Draft) (found : R
   rung_onward new (Err refused) onward rung = tt
 
 -- a post that was let in where its line stands has rung there
-pub rung_here : (old here : StandSeat) (answer : Result Posted PostError) (lent : Option Draft) → StaysAt old here → RingsTried old here (Answered answer) → HasRung old here (answer_back answer lent)
-rung_here old here (Ok posted) lent stays rung = (old.rung, inl (stays, refl), rung)
-rung_here old here (Err why) lent stays rung = tt
+pub rung_here : (old here : StandSeat) (answer : Result Posted PostError) (draft : Draft) → StaysAt old here → RingsTried old here (Answered answer) → HasRung old here (answer_back answer draft)
+rung_here old here (Ok posted) draft stays rung = (old.rung, inl (stays, refl), rung)
+rung_here old here (Err why) draft stays rung = tt

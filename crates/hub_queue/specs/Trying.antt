@@ -12,7 +12,7 @@ use Rattle.hub_queue.specs.declared.error.PostError.{PostError}
 use Rattle.hub_queue.specs.declared.error.PostError.TheVariants.{Closed, Moving, OutOfMemory}
 use Rattle.hub_queue.specs.declared.store.PutView.{PutView}
 use Rattle.hub_queue.specs.Posting.{StaysAt, GoesTo, HasSeen, IsSeen, PutsNothing}
-use Rattle.hub_queue.specs.Putting.{IsPut, HadNoRoom, LeavesDraft, answer_back, draft_in}
+use Rattle.hub_queue.specs.Putting.{IsPut, HadNoRoom, LeavesLent, answer_back}
 use Rattle.hub_queue.specs.Seats.{LineSeat, IsNameOf}
 use Rattle.hub_queue.specs.Standing.{StandSeat, HasNotPushed, put_of}
 
@@ -26,13 +26,13 @@ abbrev pub IsPutInside : InsideSeat LineSeat → Option (EntrySeat LineSeat) →
 IsPutInside inside entry draft answer = (word : ℕ) × (right : LineSeat) × (entry ≡ Some (left_seat (with_right inside right) word)) × (right.queue ≡ inside.right.queue) × IsAnswered inside.right.at right.at draft answer
 
 -- The line stays where it stands. The draft was put, or there was no memory for it, or the line was turned.
-abbrev pub IsTried : StandSeat → StandSeat → Option Draft → Tried → Type 0
-IsTried old new lent (Answered answer) = StaysAt old new × IsAnswered (put_of old) (put_of new) (draft_in lent) (answer_back answer lent)
-IsTried old new lent (Turned found) = StaysAt old new × (put_of new ≡ put_of old) × HasSeen new old.entry.at.enters found
+abbrev pub IsTried : StandSeat → StandSeat → Draft → Tried → Type 0
+IsTried old new draft (Answered answer) = StaysAt old new × IsAnswered (put_of old) (put_of new) draft (answer_back answer draft)
+IsTried old new draft (Turned found) = StaysAt old new × (put_of new ≡ put_of old) × HasSeen new old.entry.at.enters found
 
--- of a lent draft: what was accepted is gone, and else it is there as it was
-abbrev pub LeavesTried : Tried → Option Draft → Option Draft → Type 0
-LeavesTried (Answered answer) old new = LeavesDraft answer old new
+-- what is lent is there as it was, but where the draft was accepted
+abbrev pub LeavesTried : {a : Type 0} → Tried → Option a → Option a → Type 0
+LeavesTried (Answered answer) old new = LeavesLent answer old new
 LeavesTried (Turned found) old new = new ≡ old
 
 -- the line stands at the next queue, and keeps what shows the gate that it has left

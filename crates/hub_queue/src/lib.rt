@@ -32,7 +32,7 @@ pub use hub_bell::{Bell, Listener};
 pub use hub_envelope::Posted;
 pub use laws::queue_chain_laws;
 pub use left::{LeftGates, LeftLine, LeftQueue, ShutQueue};
-pub use line_right::LineRight;
+pub use line_right::{Head, LineRight};
 pub use mailbox::{Ends, Mailbox};
 pub use meeting::{Meeting, meet};
 pub use onward::Onward;

@@ -3,7 +3,7 @@ ghost use Rattle.crossbeam_queue.specs.SegSteps.{IsRefused};
 ghost use Rattle.crossbeam_queue.specs.SegTies.{IsSegPassOf};
 ghost use Rattle.hub_queue.specs.declared.store.PassView.TheVariants.{Puts};
 ghost use Rattle.hub_queue.specs.PassSteps.{refused_more};
-ghost use Rattle.hub_queue.specs.Putting.{LeavesDraft, answer_back, draft_in, unnamed};
+ghost use Rattle.hub_queue.specs.Putting.{LeavesLent, answer_back, lent_draft};
 ghost use Rattle.hub_queue.specs.Seats.{IsNameOf, known_by, put_view};
 ghost use Rattle.hub_queue.specs.Trying.{IsAnswered};
 
@@ -11,7 +11,7 @@ use crate::error::PostError;
 use crate::queue_rule::{CountRefusal, Put};
 use crate::store::{Pass, Store};
 use hub_depot::Key;
-use hub_envelope::{Draft, Envelope, MAX_PUT, Posted};
+use hub_envelope::{AgentId, Body, Envelope, MAX_PUT, Ports, Posted};
 use hub_gate::Right;
 use std::marker::Model;
 use std::sync::{Arc, Wait};
@@ -52,26 +52,13 @@ impl Right for LineRight {
     ghost tag = { tag_of };
 }
 
-/// The draft that an envelope was made of.
-fn draft_of(envelope: Envelope) -> Draft
-    ensures { result ≡ unnamed envelope }
-{
-    let Envelope {
-        end: _,
-        epoch: _,
-        line: _,
-        number: _,
-        agent,
-        body,
-        ports,
-        notice,
-    } = envelope;
-    Draft {
-        agent,
-        body,
-        ports,
-        notice,
-    }
+/// What goes along with the body and the ports of a post.
+#[derive(Clone, Copy, Debug, Drop)]
+pub struct Head {
+    /// The agent that posts.
+    pub agent: AgentId,
+    /// Whether it is the notice by which a closed port says that nothing more comes on its line.
+    pub notice: bool,
 }
 
 /// Counts a push that the queue has refused. Nothing else counts one. It isn't inlined, so that a
@@ -90,36 +77,38 @@ fn count_refusal(store: &Store, pass: &mut Pass)
 impl LineRight {
     /// Puts the draft in the queue, under the next name of the line. `name` is the line's name at
     /// this queue. `OutOfMemory`: there was no memory, or the line has put `MAX_PUT` envelopes
-    /// there. Then the draft is where it was, and nothing was put.
+    /// there. Then what is lent is there as it was, and nothing was put.
     #[inline(always)]
     pub(crate) fn put<R: Wait>(
         &mut self,
         rt: &R,
         name: Key,
-        lent: &mut Option<Draft>,
+        head: Head,
+        body: &mut Option<Body>,
+        ports: &mut Option<Ports>,
     ) -> Result<Posted, PostError>
         requires name { IsNameOf self.old.at name }
-        requires draft { IsSome lent.old }
+        requires body { IsSome body.old }
+        requires ports { IsSome ports.old }
         ensures queue { self.new.queue ≡ self.old.queue }
-        ensures put { IsAnswered self.old.at self.new.at (draft_in lent.old)
-            (answer_back result lent.old) }
-        ensures left { LeavesDraft result lent.old lent.new }
+        ensures put { IsAnswered self.old.at self.new.at (lent_draft head body.old ports.old)
+            (answer_back result (lent_draft head body.old ports.old)) }
+        ensures left { LeavesLent result body.old body.new × LeavesLent result ports.old ports.new }
     {
         let number = self.number;
         if number >= MAX_PUT {
             return Err(PostError::OutOfMemory);
         }
         let Key { end, epoch, line } = name;
-        let draft = lent.take().unwrap();
         let envelope = Envelope {
             end,
             epoch,
             line,
             number,
-            agent: draft.agent,
-            body: draft.body,
-            ports: draft.ports,
-            notice: draft.notice,
+            agent: head.agent,
+            body: body.take().unwrap(),
+            ports: ports.take().unwrap(),
+            notice: head.notice,
         };
         match self
             .store
@@ -137,7 +126,8 @@ impl LineRight {
             }
             Err(envelope) => {
                 count_refusal(&self.store, &mut self.pass);
-                *lent = Some(draft_of(envelope));
+                *body = Some(envelope.body);
+                *ports = Some(envelope.ports);
                 Err(PostError::OutOfMemory)
             }
         }

@@ -1,16 +1,17 @@
 ghost use Rattle.std.specs.Prelude.{◌≡◌, IsSome};
 ghost use Rattle.hub_queue.specs.Posting.{IsPosted};
-ghost use Rattle.hub_queue.specs.Putting.{LeavesDraft, answer_back, draft_in};
+ghost use Rattle.hub_queue.specs.Putting.{LeavesLent, answer_back, lent_draft};
 ghost use Rattle.hub_queue.specs.Rings.{HasRung};
 ghost use Rattle.hub_queue.specs.Watching.{points_of, told_more};
 ghost use Rattle.hub_queue.specs.Yards.{IsHoppedOver};
 
 use crate::error::PostError;
+use crate::line_right::Head;
 use crate::onward::Onward;
 use crate::pause::{NoPause, Pause, Paused, Point};
 use crate::stand::{Stand, Tried};
 use hub_depot::{Depot, Kept, Key};
-use hub_envelope::{Draft, Posted};
+use hub_envelope::{Body, Draft, Ports, Posted};
 use hub_locked::{Hears, Lends};
 use std::marker::Model;
 use std::sync::Wait;
@@ -69,29 +70,48 @@ impl Poster {
         ensures rung { HasRung self.old self.new result }
     {
         let (mut lender, mut heard) = (yard.lock(), Paused(pause));
-        let mut lent = Some(draft);
-        match self.post_on(rt, &mut lender, &mut lent, &mut heard) {
+        let Draft {
+            body,
+            ports,
+            agent,
+            notice,
+        } = draft;
+        let head = Head { agent, notice };
+        let (mut body, mut ports) = (Some(body), Some(ports));
+        match self.post_on(rt, &mut lender, head, &mut body, &mut ports, &mut heard) {
             Ok(posted) => Ok(posted),
-            Err(error) => Err((error, lent.unwrap())),
+            Err(error) => Err((
+                error,
+                Draft {
+                    body: body.unwrap(),
+                    ports: ports.unwrap(),
+                    agent,
+                    notice,
+                },
+            )),
         }
     }
 
-    /// `post`, of a draft that is lent. It is gone once it is accepted; after an error it is there
-    /// as it was.
+    /// `post`, of a draft whose body and ports are lent. They are gone once it is accepted; after
+    /// an error they are there as they were.
     pub fn post_lent<R: Wait>(
         &mut self,
         rt: &R,
         yard: &Depot<Onward>,
-        lent: &mut Option<Draft>,
+        head: Head,
+        body: &mut Option<Body>,
+        ports: &mut Option<Ports>,
     ) -> Result<Posted, PostError>
-        requires { IsSome lent.old }
-        ensures posted { IsPosted self.old self.new (draft_in lent.old)
-            (answer_back result lent.old) }
-        ensures left { LeavesDraft result lent.old lent.new }
-        ensures rung { HasRung self.old self.new (answer_back result lent.old) }
+        requires body { IsSome body.old }
+        requires ports { IsSome ports.old }
+        ensures posted { IsPosted self.old self.new (lent_draft head body.old ports.old)
+            (answer_back result (lent_draft head body.old ports.old)) }
+        ensures left { LeavesLent result body.old body.new × LeavesLent result ports.old ports.new }
+        ensures rung { HasRung self.old self.new
+            (answer_back result (lent_draft head body.old ports.old)) }
     {
         let (mut lender, mut heard) = (yard.lock(), Paused(&NoPause));
-        self.post_on(rt, &mut lender, lent, &mut heard)
+        self.post_on(rt, &mut lender, head, body, ports, &mut heard)
     }
 
     /// `post_lent`, over a yard that anybody lends, and told to anybody.
@@ -104,22 +124,30 @@ impl Poster {
         &mut self,
         rt: &R,
         yard: &mut L,
-        lent: &mut Option<Draft>,
+        head: Head,
+        body: &mut Option<Body>,
+        ports: &mut Option<Ports>,
         heard: &mut H,
     ) -> Result<Posted, PostError>
-        requires { IsSome lent.old }
-        ensures posted { IsPosted self.old self.new (draft_in lent.old)
-            (answer_back result lent.old) }
-        ensures left { LeavesDraft result lent.old lent.new }
-        ensures rung { HasRung self.old self.new (answer_back result lent.old) }
+        requires body { IsSome body.old }
+        requires ports { IsSome ports.old }
+        ensures posted { IsPosted self.old self.new (lent_draft head body.old ports.old)
+            (answer_back result (lent_draft head body.old ports.old)) }
+        ensures left { LeavesLent result body.old body.new × LeavesLent result ports.old ports.new }
+        ensures rung { HasRung self.old self.new
+            (answer_back result (lent_draft head body.old ports.old)) }
         ensures yard { IsHoppedOver (L.shown yard.old) (L.shown yard.new)
-            self.old.name self.new (answer_back result lent.old) }
+            self.old.name self.new (answer_back result (lent_draft head body.old ports.old)) }
         ensures told { H.told heard.new ≡ told_more (H.told heard.old)
-            (points_of self.old.name self.new.name (answer_back result lent.old)) }
+            (points_of self.old.name self.new.name
+            (answer_back result (lent_draft head body.old ports.old))) }
     {
-        match self.stand.try_post(rt, lent, heard) {
+        match self.stand.try_post(rt, head, body, ports, heard) {
             Tried::Answered(answer) => answer,
-            Tried::Turned(refusal) => self.stand.post_onward(rt, yard, refusal, lent, heard),
+            Tried::Turned(refusal) => {
+                self.stand
+                    .post_onward(rt, yard, refusal, head, body, ports, heard)
+            }
         }
     }
 }

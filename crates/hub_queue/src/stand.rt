@@ -1,7 +1,7 @@
 //! A post: enter the gate, put the draft, leave; and go on where the queue is retired.
 
 ghost use Rattle.std.specs.Prelude.{◌≡◌, IsSome};
-ghost use Rattle.hub_queue.specs.Putting.{LeavesDraft, answer_back, draft_in};
+ghost use Rattle.hub_queue.specs.Putting.{LeavesLent, answer_back, lent_draft};
 ghost use Rattle.hub_queue.specs.Rings.{IsRungWhere, RingsOnward, RingsTried};
 ghost use Rattle.hub_queue.specs.Seats.{IsNameOf, tag_of};
 ghost use Rattle.hub_queue.specs.Standing.{entry_in};
@@ -18,12 +18,12 @@ ghost use Rattle.hub_queue.specs.Yards.{IsHoppedOver, hops_between};
 
 use crate::error::PostError;
 use crate::left::LeftGates;
-use crate::line_right::LineRight;
+use crate::line_right::{Head, LineRight};
 use crate::onward::{Onward, next_stand};
 use crate::pause::Point;
 use hub_bell::Bell;
 use hub_depot::{Kept, Key};
-use hub_envelope::{Draft, MAX_HOPS, Posted};
+use hub_envelope::{Body, MAX_HOPS, Ports, Posted};
 use hub_gate::{Entered, Entry, Inside, Refusal};
 use hub_locked::{Hears, Lends};
 use std::marker::Model;
@@ -118,19 +118,23 @@ fn post_inside<H: Hears<Point>, R: Wait>(
     name: Key,
     kept: &mut Option<Entry<LineRight>>,
     bell: &mut Bell,
-    lent: &mut Option<Draft>,
+    head: Head,
+    body: &mut Option<Body>,
+    ports: &mut Option<Ports>,
     heard: &mut H,
 ) -> Result<Posted, PostError>
     requires name { IsNameOf inside.right.at name }
     requires tag { tag_of inside.right ≡ inside.at.tag }
-    requires draft { IsSome lent.old }
-    ensures put { IsPutInside inside kept.new (draft_in lent.old) (answer_back result lent.old) }
-    ensures left { LeavesDraft result lent.old lent.new }
+    requires body { IsSome body.old }
+    requires ports { IsSome ports.old }
+    ensures put { IsPutInside inside kept.new (lent_draft head body.old ports.old)
+        (answer_back result (lent_draft head body.old ports.old)) }
+    ensures left { LeavesLent result body.old body.new × LeavesLent result ports.old ports.new }
     ensures rung { IsRungWhere bell.old.at bell.new.at name.end (entry_in kept.new).at.left }
     ensures told { H.told heard.new ≡ told_more (H.told heard.old) points_inside }
 {
     heard.tell(rt, Point::Inside);
-    let put = inside.right_mut().put(rt, name, lent);
+    let put = inside.right_mut().put(rt, name, head, body, ports);
     heard.tell(rt, Point::Pushed);
     let (entry, enabled) = inside.leave();
     *kept = Some(entry);
@@ -146,12 +150,16 @@ impl Stand {
     pub(crate) fn try_post<H: Hears<Point>, R: Wait>(
         &mut self,
         rt: &R,
-        lent: &mut Option<Draft>,
+        head: Head,
+        body: &mut Option<Body>,
+        ports: &mut Option<Ports>,
         heard: &mut H,
     ) -> Tried
-        requires { IsSome lent.old }
-        ensures tried { IsTried self.old self.new lent.old result }
-        ensures left { LeavesTried result lent.old lent.new }
+        requires body { IsSome body.old }
+        requires ports { IsSome ports.old }
+        ensures tried { IsTried self.old self.new (lent_draft head body.old ports.old) result }
+        ensures left { LeavesTried result body.old body.new
+            × LeavesTried result ports.old ports.new }
         ensures rung { RingsTried self.old self.new result }
         ensures told { H.told heard.new ≡ told_more (H.told heard.old) (points_tried result) }
     {
@@ -160,7 +168,7 @@ impl Stand {
         match self.entry.take().unwrap().enter() {
             Entered::In(inside) => {
                 let kept = &mut self.entry;
-                Tried::Answered(post_inside(rt, inside, name, kept, bell, lent, heard))
+                Tried::Answered(post_inside(rt, inside, name, kept, bell, head, body, ports, heard))
             }
             Entered::Turned(entry, refusal) => {
                 self.entry = Some(entry);
@@ -178,19 +186,24 @@ impl Stand {
         rt: &R,
         yard: &mut L,
         refusal: Refusal,
-        lent: &mut Option<Draft>,
+        head: Head,
+        body: &mut Option<Body>,
+        ports: &mut Option<Ports>,
         heard: &mut H,
     ) -> Result<Posted, PostError>
-        requires { IsSome lent.old }
-        ensures posted { IsPostedOnward self.old self.new refusal (draft_in lent.old)
-            (answer_back result lent.old) }
-        ensures left { LeavesDraft result lent.old lent.new }
-        ensures rung { RingsOnward self.new (answer_back result lent.old) }
+        requires body { IsSome body.old }
+        requires ports { IsSome ports.old }
+        ensures posted { IsPostedOnward self.old self.new refusal
+            (lent_draft head body.old ports.old)
+            (answer_back result (lent_draft head body.old ports.old)) }
+        ensures left { LeavesLent result body.old body.new × LeavesLent result ports.old ports.new }
+        ensures rung { RingsOnward self.new
+            (answer_back result (lent_draft head body.old ports.old)) }
         ensures yard { IsHoppedOver (L.shown yard.old) (L.shown yard.new)
-            self.old.name self.new (answer_back result lent.old) }
+            self.old.name self.new (answer_back result (lent_draft head body.old ports.old)) }
         ensures told { H.told heard.new ≡ told_more (H.told heard.old)
             (points_onward (hops_between self.old.name self.new.name)
-            (answer_back result lent.old)) }
+            (answer_back result (lent_draft head body.old ports.old))) }
     {
         let mut found = refusal;
         for _hop in 0..MAX_HOPS {
@@ -202,7 +215,7 @@ impl Stand {
                 return Err(PostError::Moving);
             };
             self.go_to(next);
-            match self.try_post(rt, lent, heard) {
+            match self.try_post(rt, head, body, ports, heard) {
                 Tried::Answered(answer) => return answer,
                 Tried::Turned(refusal) => found = refusal,
             }

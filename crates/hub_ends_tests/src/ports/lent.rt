@@ -2,13 +2,13 @@
 //! answer alike over both. What is told is kept in a list.
 use crate::ports::{entangled, room};
 use hub_depot::{Depot, Kept};
-use hub_envelope::{AgentId, EndId, Envelope};
+use hub_envelope::{AgentId, EndId, Envelope, Ports};
 use hub_locked::Lends;
 use hub_ports::{
     ClosingStep, Closings, Hub, Noticed, Parcel, Port, Spent, arrive_from, close_flight,
     close_in_order, send_with_ports,
 };
-use hub_queue::{Ends, Mailbox, Onward, Point, Poster, Swept, Taker, Took};
+use hub_queue::{Ends, Head, Mailbox, Onward, Point, Poster, Swept, Taker, Took};
 use hub_test_parts::{bell, body, draft, take};
 use std::alloc::Global;
 use std::sync::Wait;
@@ -125,12 +125,17 @@ fn each_step_of_a_closing_is_told(rt: HostRuntime) {
 fn hops<L: Lends<Kept<Onward>>, R: Wait>(rt: &R, alloc: Global, yard: &mut L) -> Option<bool> {
     let (taker, mut poster) = mailbox(alloc, 0)?;
     let mut told = Vec::<Point>::new(alloc);
-    let mut lent = Some(draft(alloc, AgentId(0), "1")?);
-    let first = poster.post_on(rt, yard, &mut lent, &mut told);
+    let head = Head {
+        agent: AgentId(0),
+        notice: false,
+    };
+    let (mut said, mut ports) = (Some(body(alloc, "1")?), Some(Ports::none(alloc)));
+    let first = poster.post_on(rt, yard, head, &mut said, &mut ports, &mut told);
+    let is_gone = said.is_none() && ports.is_none();
     let is_first = matches!(first, Ok(posted) if posted.epoch == 0);
     let moved = taker.adopt_on(rt, yard, bell(alloc)?).ok()?;
-    let mut lent = Some(draft(alloc, AgentId(0), "2")?);
-    let second = poster.post_on(rt, yard, &mut lent, &mut told);
+    let (mut said, mut ports) = (Some(body(alloc, "2")?), Some(Ports::none(alloc)));
+    let second = poster.post_on(rt, yard, head, &mut said, &mut ports, &mut told);
     let is_second = matches!(second, Ok(posted) if posted.epoch == 1);
     let are_told = matches!(
         told.as_slice(),
@@ -149,7 +154,7 @@ fn hops<L: Lends<Kept<Onward>>, R: Wait>(rt: &R, alloc: Global, yard: &mut L) ->
     drop(second);
     drop(moved);
     drop(poster);
-    Some(is_first && is_second && are_told)
+    Some(is_first && is_gone && is_second && are_told)
 }
 
 #[test]

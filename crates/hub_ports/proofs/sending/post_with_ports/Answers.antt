@@ -2,7 +2,8 @@ use Rattle.std.proofs.Common.{◌≡◌, ◌<◌, List, [], length, vec_len, Som
 use Rattle.hub_envelope.specs.declared.envelope.Draft.{Draft}
 use Rattle.hub_envelope.specs.declared.ids.EndId.{EndId}
 use Rattle.hub_ports.specs.declared.error.SendRefusal.TheVariants.{Doomed, TooManyPorts, Strayed}
-use Rattle.hub_ports.specs.Refusing.{carried_body, carried_text}
+use Rattle.hub_queue.specs.Putting.{lent_list}
+use Rattle.hub_ports.specs.Refusing.{carried_body}
 use Rattle.hub_ports.specs.Seats.{ends_of}
 use Rattle.hub_ports.specs.Sending.{draft_of}
 use Rattle.hub_ports.proofs.Flights.{flight-whole, flown_back, line-whole}
@@ -60,47 +61,8 @@ returns-in-Err-clause-flown g c =
     (record { body = c.args.parcel.now.body; ports = c.call_back.new.ports; missing = c.call_back.new.missing }) c.in-Err.refusal c.refused.result
     (flight-whole c.in-Err.refusal c.in-Err.ensures.refusal) c.send_off.ensures.flown c.call_back.ensures.back named all
 
-pub returns-in-Err-post-clause-sent : goal.returns-in-Err-post-clause-sent
-returns-in-Err-post-clause-sent g c = λ closings.
+pub returns-in-Err-post_lent-clause-sent : goal.returns-in-Err-post_lent-clause-sent
+returns-in-Err-post_lent-clause-sent g c = λ closings.
     let draft = draft_of c.args.agent (carried_body c.args.parcel.now) c.args.parcel.now.ports.items in
-    let back = c.in-Err-post.ensures.posted.4 in
-    let named : c.as_slice-in-Err-post.result.now ≡ draft.ports =
-    c.as_slice-in-Err-post.ensures.listed ∙ ap (λ (d : Draft). d.ports) back ∙ c.in-Ok-of_list.ensures.ok ∙ c.in-Ok.ensures ∙ ap ends_of c.as_slice.ensures.value in
-    let all : c.call_back-in-Err-post.new.missing.items ≡ [] → c.refused-in-Err-post.result ≡ c.of_line.result = λ none. c.refused-in-Err-post.ensures.whole (c.as_slice-in-Err-post-2.ensures.value ∙ none) in
-    let some : 0 < length c.call_back-in-Err-post.new.missing.items → c.refused-in-Err-post.result ≡ Strayed = λ more. c.refused-in-Err-post.ensures.strayed (subst (λ (l : List EndId). 0 < length l) (sym c.as_slice-in-Err-post-2.ensures.value) more) in
-    refused_by_line c.args.line.now c.post.new.self draft c.args.parcel.now.ports.items
-    (record { body = Some c.in-Err-post.draft.body; ports = c.call_back-in-Err-post.new.ports; missing = c.call_back-in-Err-post.new.missing }) closings
-    c.of_line.result c.refused-in-Err-post.result c.in-Err-post.error c.of_line.ensures (ap (λ (d : Draft). d.body) back ∙ ap carried_text (sym c.unwrap.ensures ∙ c.take.ensures.value))
-    (split-same _ _ _ _ _ _ named refl refl c.call_back-in-Err-post.ensures.split)
-    (same_draft c.args.line.now c.post.new.self _ c.in-Err-post.draft draft c.in-Err-post.error c.in-Err-post.ensures.posted) all some
-
-pub returns-in-Err-post-clause-left : goal.returns-in-Err-post-clause-left
-returns-in-Err-post-clause-left g c =
-    let all : c.call_back-in-Err-post.new.missing.items ≡ [] → c.refused-in-Err-post.result ≡ c.of_line.result = λ none. c.refused-in-Err-post.ensures.whole (c.as_slice-in-Err-post-2.ensures.value ∙ none) in
-    let some : 0 < length c.call_back-in-Err-post.new.missing.items → c.refused-in-Err-post.result ≡ Strayed = λ more. c.refused-in-Err-post.ensures.strayed (subst (λ (l : List EndId). 0 < length l) (sym c.as_slice-in-Err-post-2.ensures.value) more) in
-    let apart : IsNoList c.refused-in-Err-post.result = told_so IsNoList c.of_line.result c.refused-in-Err-post.result c.call_back-in-Err-post.new.missing.items (line-no-list c.in-Err-post.error c.of_line.result c.of_line.ensures) strayed-no-list all some in
-    (ap (λ (d : Draft). Some d.body) c.in-Err-post.ensures.posted.4 ∙ sym c.unwrap.ensures ∙ c.take.ensures.value, λ doomed. absurd (apart.0 doomed))
-
-pub returns-in-Err-post-clause-many : goal.returns-in-Err-post-clause-many
-returns-in-Err-post-clause-many g c =
-    let all : c.call_back-in-Err-post.new.missing.items ≡ [] → c.refused-in-Err-post.result ≡ c.of_line.result = λ none. c.refused-in-Err-post.ensures.whole (c.as_slice-in-Err-post-2.ensures.value ∙ none) in
-    let some : 0 < length c.call_back-in-Err-post.new.missing.items → c.refused-in-Err-post.result ≡ Strayed = λ more. c.refused-in-Err-post.ensures.strayed (subst (λ (l : List EndId). 0 < length l) (sym c.as_slice-in-Err-post-2.ensures.value) more) in
-    let apart : IsNoList c.refused-in-Err-post.result = told_so IsNoList c.of_line.result c.refused-in-Err-post.result c.call_back-in-Err-post.new.missing.items (line-no-list c.in-Err-post.error c.of_line.result c.of_line.ensures) strayed-no-list all some in
-    λ is. let same : c.refused-in-Err-post.result ≡ TooManyPorts = cc in absurd (apart.1 same)
-
-pub returns-in-Err-post-clause-doomed : goal.returns-in-Err-post-clause-doomed
-returns-in-Err-post-clause-doomed g c =
-    let all : c.call_back-in-Err-post.new.missing.items ≡ [] → c.refused-in-Err-post.result ≡ c.of_line.result = λ none. c.refused-in-Err-post.ensures.whole (c.as_slice-in-Err-post-2.ensures.value ∙ none) in
-    let some : 0 < length c.call_back-in-Err-post.new.missing.items → c.refused-in-Err-post.result ≡ Strayed = λ more. c.refused-in-Err-post.ensures.strayed (subst (λ (l : List EndId). 0 < length l) (sym c.as_slice-in-Err-post-2.ensures.value) more) in
-    let apart : IsNoList c.refused-in-Err-post.result = told_so IsNoList c.of_line.result c.refused-in-Err-post.result c.call_back-in-Err-post.new.missing.items (line-no-list c.in-Err-post.error c.of_line.result c.of_line.ensures) strayed-no-list all some in
-    λ is. let same : c.refused-in-Err-post.result ≡ Doomed = cc in absurd (apart.0 same)
-
-pub returns-in-Err-post-clause-flown : goal.returns-in-Err-post-clause-flown
-returns-in-Err-post-clause-flown g c =
-    let back = c.in-Err-post.ensures.posted.4 in
-    let named = c.as_slice-in-Err-post.ensures.listed ∙ ap (λ (d : Draft). d.ports) back ∙ c.in-Ok-of_list.ensures.ok ∙ c.in-Ok.ensures ∙ ap ends_of c.as_slice.ensures.value in
-    let all : c.call_back-in-Err-post.new.missing.items ≡ [] → c.refused-in-Err-post.result ≡ c.of_line.result = λ none. c.refused-in-Err-post.ensures.whole (c.as_slice-in-Err-post-2.ensures.value ∙ none) in
-    let some : 0 < length c.call_back-in-Err-post.new.missing.items → c.refused-in-Err-post.result ≡ Strayed = λ more. c.refused-in-Err-post.ensures.strayed (subst (λ (l : List EndId). 0 < length l) (sym c.as_slice-in-Err-post-2.ensures.value) more) in
-    flown_back (g.L.Lends.shown c.args.flight.now) _ _ c.args.parcel.now.ports.items c.send_off.new.ports.items c.as_slice-in-Err-post.result.now
-    (record { body = Some c.in-Err-post.draft.body; ports = c.call_back-in-Err-post.new.ports; missing = c.call_back-in-Err-post.new.missing }) c.of_line.result c.refused-in-Err-post.result
-    (line-whole c.in-Err-post.error c.of_line.result c.of_line.ensures) c.send_off.ensures.flown c.call_back-in-Err-post.ensures.back named all
+    let list = c.in-Ok-of_list.ensures.ok ∙ c.in-Ok.ensures ∙ ap ends_of c.as_slice.ensures.value in
+    ?

@@ -1,7 +1,8 @@
 use Rattle.std.proofs.Common.{◌≡◌, ◌∙◌, ap, rules, subst, sym, Vec}
 use Rattle.std.specs.declared.alloc.Global.{Global}
 use Rattle.hub_logging.specs.Notes.{Notes}
-use Rattle.hub_ports.specs.Refusing.{answer_with, carried_body, carried_text}
+use Rattle.hub_queue.specs.Putting.{lent_list}
+use Rattle.hub_ports.specs.Refusing.{answer_with, carried_body}
 use Rattle.hub_ports.specs.Seats.{PortSeat, ends_of}
 use Rattle.hub_agent.specs.Agents.{AgentState}
 use Rattle.hub_agent.specs.Posting.{LacksOne, TakesOut}
@@ -26,6 +27,6 @@ returns-clause-posted g c =
     let answer = answer_with c.post_over-answer.result parcel c.post_over-answer.new.closings in
     has_settled c.log_answer-logged.result c.args.way c.as_slice-sent.result.now ends c.agent-agent.result (carried_body sent) c.args.body.now sent.ports parcel.ports.items answer c.args.self.now.ends out.ends c.self.inside.event_loop.holding.held c.post_over-answer.new.event_loop.holding.held c.hold_ports.new.self.ends
     c.args.self.now.notes c.self.inside.scribe c.log_answer-logged.new.scribe c.hold_ports.new.self.notes
-    (ap (λ (v : Vec PortSeat Global). ends_of v.items) ports ∙ are) c.as_slice-sent.ensures.listed (c.agent-agent.ensures ∙ ap (λ (n : Notes). n.log.0) notes) (ap carried_text c.new-parcel.ensures.0 ∙ search rules)
+    (ap (λ (v : Vec PortSeat Global). ends_of v.items) ports ∙ are) c.as_slice-sent.ensures.listed (c.agent-agent.ensures ∙ ap (λ (n : Notes). n.log.0) notes) (ap lent_list c.new-parcel.ensures.0 ∙ search rules)
     (subst (λ (v : Vec PortSeat Global). TakesOut v.items c.args.self.now.ends out.ends) (sym ports) taken) (ap (λ (a : AgentState). a.ends) c.self.view_is) c.post_over-answer.ensures.sent
     c.post_over-answer.ensures.back c.in_ok-hold_ports.ensures.held notes (c.log_answer-logged.ensures parcel) (ap (λ (a : AgentState). a.notes) c.hold_ports.ensures.same)

@@ -7,7 +7,8 @@ use Rattle.hub_queue.proofs.stand.Stand.post_onward.Given as goal
 abbrev pub invariant-loop-hop : goal.invariant-loop-hop
 invariant-loop-hop g l = record {
   gone : GoneOn l.fn.self l.self l._hop l.fn.refusal l.found;
-  same : l.lent ≡ l.initial.lent;
+  same_body : l.body ≡ l.initial.body;
+  same_ports : l.ports ≡ l.initial.ports;
   went : WentOver (g.L.Lends.shown l.initial.yard) (g.L.Lends.shown l.yard) l.fn.self.name l.self l._hop;
   told : g.H.Hears.told l.heard ≡ told_more (g.H.Hears.told l.initial.heard) (points_hopping l._hop);
 }
