@@ -21,6 +21,7 @@ use hub_logging::Scribe;
 use hub_loop::{ClosedPort, Held};
 use hub_ports::{Closing, Closings, Noticed, SendRefusal};
 use hub_queue::Posted;
+use hub_trace::Content;
 
 /// Logs a post that was accepted.
 fn log_put(
@@ -32,7 +33,8 @@ fn log_put(
     ensures { OnOk result (WritesEntries (Put (message_at posted ports.now body.now) ∷ [])
         scribe.old scribe.new) }
 {
-    scribe.put(posted, ports, body)
+    let content = scribe.message_of(ports, body)?;
+    scribe.put(posted, content)
 }
 
 /// How often an end has moved. A member and a line are never adopted.
@@ -72,7 +74,7 @@ pub(crate) fn log_close(scribe: &mut Scribe, end: EndId) -> Result<(), OutOfMemo
 pub(crate) fn log_notice(scribe: &mut Scribe, posted: Posted) -> Result<(), OutOfMemory>
     ensures { OnOk result (WritesEntries (Put (notice_at posted) ∷ []) scribe.old scribe.new) }
 {
-    scribe.put_notice(posted)
+    scribe.put(posted, Content::Notice)
 }
 
 /// Logs the notice of a port that was closed, where it was put, and the closing.

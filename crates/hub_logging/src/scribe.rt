@@ -1,7 +1,8 @@
-ghost use Rattle.std.specs.Prelude.{◌≡◌, ◌≤◌, [], OnOk, OnErr, IfOk};
+ghost use Rattle.std.specs.Prelude.{◌≡◌, ◌≤◌, [], true, OnOk, OnErr, IfOk};
+ghost use Rattle.hub_envelope.specs.Naming.{posted_of};
 ghost use Rattle.hub_logging.specs.Notes.{IsLoggable, delivered, found};
-ghost use Rattle.hub_trace.specs.Accepted.{log_with, message_at, notice_at};
-ghost use Rattle.hub_trace.specs.PortList.{lists_end};
+ghost use Rattle.hub_trace.specs.Accepted.{delivery_at, log_with};
+ghost use Rattle.hub_trace.specs.PortList.{is_port_list, lists_end};
 ghost use Rattle.hub_trace.specs.declared.limits.TheConstants.{MAX_AGENT};
 ghost use Rattle.hub_trace.specs.declared.log_entry.LogEntry.TheVariants.{
   Adopted,
@@ -12,7 +13,7 @@ ghost use Rattle.hub_trace.specs.declared.log_entry.LogEntry.TheVariants.{
 
 use hub_envelope::{AgentId, Body, EndId, Envelope, OutOfMemory, Posted};
 use hub_loop::Handler;
-use hub_trace::{Log, MAX_END, MAX_EPOCH, is_name, is_port_list};
+use hub_trace::{Content, Log, MAX_END, MAX_EPOCH, Payload, is_name, is_port_list};
 use std::alloc::Global;
 use std::collections::BTreeSet;
 use std::marker::Model;
@@ -26,7 +27,8 @@ use std::sync::Wait;
 ///
 /// ```rust
 /// let mut scribe = Scribe::new(alloc, AgentId(0));
-/// scribe.put(posted, &[], &body)?;
+/// let content = scribe.message_of(&[], &body)?;
+/// scribe.put(posted, content)?;
 /// let log = scribe.into_log();
 /// ```
 pub struct Scribe {
@@ -157,36 +159,50 @@ impl Scribe {
         replace(&mut self.adopted, Vec::new(self.alloc))
     }
 
-    /// Logs a post that was accepted. An error changes nothing.
-    #[tactic(auto, using(crate::proofs::Notes::closed_more))]
-    pub fn put(&mut self, posted: Posted, ports: &[EndId], body: &Body) -> Result<(), OutOfMemory>
-        ensures ok { OnOk result (self.new ≡ record self.old {
-          log = log_with self.old.log (Put (message_at posted ports.now body.now));
-        }) }
-        ensures err { OnErr result (self.new ≡ self.old) }
+    /// What a log holds of these ports and this body. A list that no log can hold is refused.
+    pub fn message_of(&self, ports: &[EndId], body: &Body) -> Result<Content, OutOfMemory>
+        ensures copy { IfOk result (λ content. content ≡ Content.Payload (ports.now, body.now)) }
+        ensures list { OnOk result (is_port_list ports.now ≡ true) }
     {
-        if !is_name(&posted) || !is_port_list(ports) {
+        if !is_port_list(ports) {
             return Err(OutOfMemory);
         }
-        self.log.put(self.alloc, posted, ports, body)
+        Ok(Content::Payload(Payload::copy_of(self.alloc, ports, body)?))
     }
 
-    /// Logs a notice that was put. An error changes nothing.
+    /// What a log holds of an envelope that was delivered. One that no log can hold is refused,
+    /// since the log would leave out the adoption of a port.
+    fn content_of(&self, envelope: &Envelope) -> Result<Content, OutOfMemory>
+        ensures content { IfOk result (λ content.
+            delivery_at (posted_of envelope.now) content ≡ delivered envelope.now) }
+        ensures loggable { OnOk result (IsLoggable envelope.now) }
+    {
+        let ports = envelope.ports.as_slice();
+        if envelope.notice && !ports.is_empty() {
+            return Err(OutOfMemory);
+        }
+        if envelope.notice {
+            return Ok(Content::Notice);
+        }
+        self.message_of(ports, &envelope.body)
+    }
+
+    /// Logs that the agent put it under the name: a post that was accepted, or a notice. An error
+    /// changes nothing.
     #[tactic(auto, using(crate::proofs::Notes::closed_more))]
-    pub fn put_notice(&mut self, posted: Posted) -> Result<(), OutOfMemory>
+    pub fn put(&mut self, posted: Posted, content: Content) -> Result<(), OutOfMemory>
         ensures ok { OnOk result (self.new ≡ record self.old {
-          log = log_with self.old.log (Put (notice_at posted));
+          log = log_with self.old.log (Put (delivery_at posted content));
         }) }
         ensures err { OnErr result (self.new ≡ self.old) }
     {
         if !is_name(&posted) {
             return Err(OutOfMemory);
         }
-        self.log.put_notice(posted)
+        self.log.put(posted, content)
     }
 
-    /// Logs an envelope that was delivered. One that no log can hold is refused, since the log
-    /// would leave out the adoption of a port. An error changes nothing.
+    /// Logs an envelope that was delivered. An error changes nothing.
     #[tactic(auto, using(crate::proofs::Notes::closed_more))]
     fn log_delivery(&mut self, envelope: &Envelope) -> Result<(), OutOfMemory>
         ensures ok { OnOk result (self.new ≡ record self.old {
@@ -196,15 +212,11 @@ impl Scribe {
         ensures err { OnErr result (self.new ≡ self.old) }
     {
         let posted = Posted::of(envelope);
-        let ports = envelope.ports.as_slice();
-        if !is_name(&posted) || !is_port_list(ports) || (envelope.notice && !ports.is_empty()) {
+        if !is_name(&posted) {
             return Err(OutOfMemory);
         }
-        if envelope.notice {
-            self.log.got_notice(posted)
-        } else {
-            self.log.got(self.alloc, posted, ports, &envelope.body)
-        }
+        let content = self.content_of(envelope)?;
+        self.log.got(posted, content)
     }
 
     /// Logs that the end was adopted, and how often it has moved. An error changes nothing.

@@ -2,12 +2,10 @@
 
 ghost use Rattle.std.specs.Prelude.{◌≡◌, ◌<◌, ◌≤◌, length, true};
 ghost use Rattle.hub_envelope.specs.declared.limits.TheConstants.{MAX_AGENTS, MAX_PORTS};
-ghost use Rattle.hub_envelope.specs.declared.limits.TheConstants.{MAX_SCRIPT_LINES};
-ghost use Rattle.hub_text.specs.Reading.{IsReadAs};
-ghost use Rattle.hub_script.specs.Contents.{declared_agents, line_count};
+ghost use Rattle.hub_script.specs.Contents.{declared_agents};
 ghost use Rattle.hub_script.specs.Context.{adding, adding_action, adding_agent, adding_channel};
-ghost use Rattle.hub_script.specs.Context.{adding_member, after_form, casting, is_within};
-ghost use Rattle.hub_script.specs.Context.{posting, sending, start_of, value_or};
+ghost use Rattle.hub_script.specs.Context.{adding_member, after_form, casting, has_room};
+ghost use Rattle.hub_script.specs.Context.{is_within, posting, sending, start_of, value_or};
 ghost use Rattle.hub_script.specs.Fields.{IsRead};
 ghost use Rattle.hub_script.specs.Uses.{transferred};
 
@@ -32,24 +30,22 @@ fn body_or(answer: Result<Body, BodyError>) -> Result<Body, ScriptError>
 }
 
 impl ScriptReader {
-    ghost use Rattle.hub_script.specs.Reader.{known};
+    ghost use Rattle.hub_script.specs.Reader.{Becomes, known};
 
     /// Adds what a script line of that form says, or answers the first test that it fails. After an
     /// error nothing is known of the reader.
     #[tactic(auto, unfolding(crate::specs::Context::after_form))]
     pub(crate) fn add_form(&mut self, alloc: Global, form: Form) -> Result<(), ScriptError>
-        ensures { IsReadAs ScriptError.OutOfMemory (λ _. known self.new) result
-            (after_form (known self.old) form) }
+        ensures { Becomes self.new result (after_form (known self.old) form) }
     {
         self.test(&form)?;
         self.add(alloc, form)
     }
 
     fn add(&mut self, alloc: Global, form: Form) -> Result<(), ScriptError>
-        requires room { line_count (known self.old).script < MAX_SCRIPT_LINES }
+        requires room { has_room (known self.old) ≡ true }
         requires within { is_within (known self.old) form ≡ true }
-        ensures { IsReadAs ScriptError.OutOfMemory (λ _. known self.new) result
-            (adding (known self.old) form) }
+        ensures { Becomes self.new result (adding (known self.old) form) }
     {
         match form {
             Form::Agent { kind, origin } => self.add_agent(kind, origin),
@@ -67,10 +63,9 @@ impl ScriptReader {
         kind: AgentKind,
         origin: Result<Origin, OriginError>,
     ) -> Result<(), ScriptError>
-        requires room { line_count (known self.old).script < MAX_SCRIPT_LINES }
+        requires room { has_room (known self.old) ≡ true }
         requires seat { length (declared_agents (known self.old).script) < MAX_AGENTS }
-        ensures { IsReadAs ScriptError.OutOfMemory (λ _. known self.new) result
-            (adding_agent (known self.old) kind origin) }
+        ensures { Becomes self.new result (adding_agent (known self.old) kind origin) }
     {
         let Ok(origin) = origin else {
             return Err(ScriptError::Syntax);
@@ -86,9 +81,8 @@ impl ScriptReader {
         second: Text,
         at: u32,
     ) -> Result<(), ScriptError>
-        requires { line_count (known self.old).script < MAX_SCRIPT_LINES }
-        ensures { IsReadAs ScriptError.OutOfMemory (λ _. known self.new) result
-            (adding_channel (known self.old) first second at) }
+        requires { has_room (known self.old) ≡ true }
+        ensures { Becomes self.new result (adding_channel (known self.old) first second at) }
     {
         let at = self.agent_of(at)?;
         let (port, other) = self.next_ports();
@@ -105,9 +99,8 @@ impl ScriptReader {
         at: u32,
         on: Text,
     ) -> Result<(), ScriptError>
-        requires { line_count (known self.old).script < MAX_SCRIPT_LINES }
-        ensures { IsReadAs ScriptError.OutOfMemory (λ _. known self.new) result
-            (adding_member (known self.old) name at on) }
+        requires { has_room (known self.old) ≡ true }
+        ensures { Becomes self.new result (adding_member (known self.old) name at on) }
     {
         let at = self.agent_of(at)?;
         let member = self.next_member();
@@ -121,10 +114,9 @@ impl ScriptReader {
         agent: AgentId,
         action: ActionForm,
     ) -> Result<(), ScriptError>
-        requires room { line_count (known self.old).script < MAX_SCRIPT_LINES }
+        requires room { has_room (known self.old) ≡ true }
         requires few { length (transferred action) ≤ MAX_PORTS }
-        ensures { IsReadAs ScriptError.OutOfMemory (λ _. known self.new) result
-            (adding_action (known self.old) agent action) }
+        ensures { Becomes self.new result (adding_action (known self.old) agent action) }
     {
         match action {
             ActionForm::Post {
@@ -170,9 +162,9 @@ impl ScriptReader {
         body: Result<Body, BodyError>,
         transfer: &Items<Text>,
     ) -> Result<(), ScriptError>
-        requires room { line_count (known self.old).script < MAX_SCRIPT_LINES }
+        requires room { has_room (known self.old) ≡ true }
         requires few { length transfer.now ≤ MAX_PORTS }
-        ensures { IsReadAs ScriptError.OutOfMemory (λ _. known self.new) result
+        ensures { Becomes self.new result
             (posting (known self.old) agent port.now body transfer.now) }
     {
         let source = self.named_end(port)?;
@@ -201,10 +193,9 @@ impl ScriptReader {
         body: Result<Body, BodyError>,
         transfer: &Items<Text>,
     ) -> Result<(), ScriptError>
-        requires room { line_count (known self.old).script < MAX_SCRIPT_LINES }
+        requires room { has_room (known self.old) ≡ true }
         requires few { length transfer.now ≤ MAX_PORTS }
-        ensures { IsReadAs ScriptError.OutOfMemory (λ _. known self.new) result
-            (sending (known self.old) agent to body transfer.now) }
+        ensures { Becomes self.new result (sending (known self.old) agent to body transfer.now) }
     {
         let queue = queue_of(self.agent_of(to)?);
         let ports = self.ends_named(alloc, transfer)?;
@@ -229,9 +220,8 @@ impl ScriptReader {
         member: &Text,
         body: Result<Body, BodyError>,
     ) -> Result<(), ScriptError>
-        requires { line_count (known self.old).script < MAX_SCRIPT_LINES }
-        ensures { IsReadAs ScriptError.OutOfMemory (λ _. known self.new) result
-            (casting (known self.old) agent member.now body) }
+        requires { has_room (known self.old) ≡ true }
+        ensures { Becomes self.new result (casting (known self.old) agent member.now body) }
     {
         let named = self.named_end(member)?;
         let body = body_or(body)?;
@@ -240,8 +230,8 @@ impl ScriptReader {
     }
 
     fn add_start(&mut self, agent: AgentId, name: &Text) -> Result<(), ScriptError>
-        requires { line_count (known self.old).script < MAX_SCRIPT_LINES }
-        ensures { IsReadAs ScriptError.OutOfMemory (λ _. known self.new) result
+        requires { has_room (known self.old) ≡ true }
+        ensures { Becomes self.new result
             (adding_action (known self.old) agent (ActionForm.Start name.now)) }
     {
         let end = self.start_of(agent, name)?;
@@ -260,8 +250,8 @@ impl ScriptReader {
     }
 
     fn add_close(&mut self, agent: AgentId, name: &Text) -> Result<(), ScriptError>
-        requires { line_count (known self.old).script < MAX_SCRIPT_LINES }
-        ensures { IsReadAs ScriptError.OutOfMemory (λ _. known self.new) result
+        requires { has_room (known self.old) ≡ true }
+        ensures { Becomes self.new result
             (adding_action (known self.old) agent (ActionForm.Close name.now)) }
     {
         let named = self.named_end(name)?;
@@ -272,8 +262,8 @@ impl ScriptReader {
     }
 
     fn add_receive(&mut self, agent: AgentId, name: &Text) -> Result<(), ScriptError>
-        requires { line_count (known self.old).script < MAX_SCRIPT_LINES }
-        ensures { IsReadAs ScriptError.OutOfMemory (λ _. known self.new) result
+        requires { has_room (known self.old) ≡ true }
+        ensures { Becomes self.new result
             (adding_action (known self.old) agent (ActionForm.Receive name.now)) }
     {
         let named = self.named_end(name)?;

@@ -5,7 +5,7 @@ ghost use Rattle.std.specs.Str.{is_utf8};
 ghost use Rattle.hub_script.specs.Answers.{IsScriptAnswer, ReadingTakesMemoryAt};
 ghost use Rattle.hub_script.specs.Refusals.{IsExplained};
 ghost use Rattle.hub_script.specs.Script.{after_line, script_of};
-ghost use Rattle.hub_text.specs.Reading.{AreLinesReadAs, IsReadAs};
+ghost use Rattle.hub_text.specs.Reading.{AreLinesReadAs};
 
 use crate::error::ScriptError;
 use crate::read_form::read_form;
@@ -50,7 +50,7 @@ impl Script {
 }
 
 impl ScriptReader {
-    ghost use Rattle.hub_script.specs.Reader.{known};
+    ghost use Rattle.hub_script.specs.Reader.{Becomes, known};
 
     fn add_line(
         &mut self,
@@ -58,8 +58,7 @@ impl ScriptReader {
         scratch: &mut Scratch,
         line: &[u8],
     ) -> Result<(), ScriptError>
-        ensures says { IsReadAs ScriptError.OutOfMemory (λ _. known self.new) result
-            (after_line (known self.old) line.now) }
+        ensures says { Becomes self.new result (after_line (known self.old) line.now) }
         ensures memory { IfErr result
             (λ e. e ≡ ScriptError.OutOfMemory → is_utf8 line.now ≡ true) }
     {

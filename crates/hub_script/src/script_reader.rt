@@ -1,7 +1,7 @@
-ghost use Rattle.std.specs.Prelude.{◌≡◌, ◌<◌, ◌≤◌, [], length, map, nat_lt, IfOk, Ok};
+ghost use Rattle.std.specs.Prelude.{◌≡◌, ◌<◌, ◌≤◌, [], length, map, nat_lt, true, IfOk, Ok};
 ghost use Rattle.hub_text.specs.Reading.{IsReadAs};
-ghost use Rattle.hub_script.specs.Contents.{actions, declared_agents, line_count, with_declared};
-ghost use Rattle.hub_script.specs.Contents.{with_channel, with_member};
+ghost use Rattle.hub_script.specs.Contents.{actions, declared_agents, with_channel, with_declared};
+ghost use Rattle.hub_script.specs.Contents.{with_member};
 ghost use Rattle.hub_script.specs.Context.{acting, agent_of, declared_ends, has_agent};
 ghost use Rattle.hub_script.specs.Context.{has_no_action, has_room, is_agent, is_unused};
 ghost use Rattle.hub_script.specs.Context.{holds_named, is_member};
@@ -78,7 +78,7 @@ pub(crate) fn queue_of(agent: AgentId) -> EndId
 }
 
 impl ScriptReader {
-    ghost use Rattle.hub_script.specs.Reader.{known};
+    ghost use Rattle.hub_script.specs.Reader.{Becomes, known};
 
     pub(crate) fn new(alloc: Global) -> ScriptReader
         ensures { known result ≡ nothing }
@@ -134,8 +134,7 @@ impl ScriptReader {
 
     /// The declared agent of that number.
     pub(crate) fn agent_of(&self, number: u32) -> Result<AgentId, ScriptError>
-        ensures { IsReadAs ScriptError.OutOfMemory (λ a. a) result
-            (agent_of (known self.now) number) }
+        ensures { IsRead result (agent_of (known self.now) number) }
     {
         if (number as usize) < self.script.agents().len() {
             Ok(AgentId(number as u8))
@@ -258,7 +257,7 @@ impl ScriptReader {
 
     /// What the ports of the next channel are.
     pub(crate) fn next_ports(&self) -> (NamedEnd, NamedEnd)
-        requires { line_count (known self.now).script < MAX_SCRIPT_LINES }
+        requires { has_room (known self.now) ≡ true }
         ensures { result
             ≡ (next_port (known self.now).script, second_port (known self.now).script) }
     {
@@ -290,9 +289,9 @@ impl ScriptReader {
     }
 
     pub(crate) fn push_agent(&mut self, agent: DeclaredAgent) -> Result<(), ScriptError>
-        requires room { line_count (known self.old).script < MAX_SCRIPT_LINES }
+        requires room { has_room (known self.old) ≡ true }
         requires seat { length (declared_agents (known self.old).script) < MAX_AGENTS }
-        ensures { IsReadAs ScriptError.OutOfMemory (λ _. known self.new) result
+        ensures { Becomes self.new result
             (Ok (with_script (known self.old) (with_declared (known self.old).script agent))) }
     {
         self.script.push_agent(agent)?;
@@ -300,8 +299,8 @@ impl ScriptReader {
     }
 
     pub(crate) fn push_channel(&mut self, channel: DeclaredChannel) -> Result<(), ScriptError>
-        requires { line_count (known self.old).script < MAX_SCRIPT_LINES }
-        ensures { IsReadAs ScriptError.OutOfMemory (λ _. known self.new) result
+        requires { has_room (known self.old) ≡ true }
+        ensures { Becomes self.new result
             (Ok (with_script (known self.old) (with_channel (known self.old).script channel))) }
     {
         self.script.push_channel(channel)?;
@@ -309,8 +308,8 @@ impl ScriptReader {
     }
 
     pub(crate) fn push_member(&mut self, member: DeclaredMember) -> Result<(), ScriptError>
-        requires { line_count (known self.old).script < MAX_SCRIPT_LINES }
-        ensures { IsReadAs ScriptError.OutOfMemory (λ _. known self.new) result
+        requires { has_room (known self.old) ≡ true }
+        ensures { Becomes self.new result
             (Ok (with_script (known self.old) (with_member (known self.old).script member))) }
     {
         self.script.push_member(member)?;
@@ -319,9 +318,8 @@ impl ScriptReader {
 
     /// Adds a script line, which is the action of the agent.
     pub(crate) fn act(&mut self, at: AgentId, kind: ActionKind) -> Result<(), ScriptError>
-        requires { line_count (known self.old).script < MAX_SCRIPT_LINES }
-        ensures { IsReadAs ScriptError.OutOfMemory (λ _. known self.new) result
-            (Ok (acting (known self.old) at kind)) }
+        requires { has_room (known self.old) ≡ true }
+        ensures { Becomes self.new result (Ok (acting (known self.old) at kind)) }
     {
         self.script.push_action(Action { at, kind })?;
         Ok(())
@@ -329,7 +327,7 @@ impl ScriptReader {
 
     /// The agent holds the name from now on.
     pub(crate) fn take(&mut self, agent: AgentId, named: NamedEnd) -> Result<(), ScriptError>
-        ensures { IsReadAs ScriptError.OutOfMemory (λ _. known self.new) result
+        ensures { Becomes self.new result
             (Ok (with_holds (known self.old) (taking_more (holding agent named)))) }
     {
         self.held.insert(NameHolder::of(agent, named))?;
@@ -356,8 +354,7 @@ impl ScriptReader {
 
     /// The agent has handed its queue on.
     pub(crate) fn hand(&mut self, agent: AgentId) -> Result<(), ScriptError>
-        ensures { IsReadAs ScriptError.OutOfMemory (λ _. known self.new) result
-            (Ok (with_handed (known self.old) agent.0)) }
+        ensures { Becomes self.new result (Ok (with_handed (known self.old) agent.0)) }
     {
         self.handed.insert(u32::from(agent.0))?;
         Ok(())
@@ -371,15 +368,14 @@ impl ScriptReader {
         named: NamedEnd,
         agent: AgentId,
     ) -> Result<(), ScriptError>
-        ensures { IsReadAs ScriptError.OutOfMemory (λ _. known self.new) result
-            (Ok (declaring (known self.old) name.now named agent)) }
+        ensures { Becomes self.new result (Ok (declaring (known self.old) name.now named agent)) }
     {
         self.set_name(alloc, name, named)?;
         self.take(agent, named)
     }
 
     fn set_name(&mut self, alloc: Global, name: &Text, named: NamedEnd) -> Result<(), ScriptError>
-        ensures { IsReadAs ScriptError.OutOfMemory (λ _. known self.new) result
+        ensures { Becomes self.new result
             (Ok (with_names (known self.old) (naming_more name.now named (known self.old).names))) }
     {
         let key = String::from_str(alloc, name.as_str())?;

@@ -1,15 +1,13 @@
 //! The tests of a form behind what is known. They stand in the order in which they are made, so
 //! that the first that fails is the answer.
 
-ghost use Rattle.std.specs.Prelude.{◌≡◌, ◌<◌, true, OnOk};
+ghost use Rattle.std.specs.Prelude.{◌≡◌, true, OnOk};
 ghost use Rattle.std.specs.List.{list_all};
-ghost use Rattle.hub_envelope.specs.declared.limits.TheConstants.{MAX_SCRIPT_LINES};
-ghost use Rattle.hub_text.specs.Reading.{IsReadAs};
-ghost use Rattle.hub_script.specs.Contents.{line_count};
-ghost use Rattle.hub_script.specs.Context.{are_known, has_agent, has_twice, holds_list};
+ghost use Rattle.hub_script.specs.Context.{are_known, has_agent, has_room, has_twice, holds_list};
 ghost use Rattle.hub_script.specs.Context.{holds_named, is_member, is_placed, is_port, is_small};
 ghost use Rattle.hub_script.specs.Context.{is_timely, is_within, lists_source, may_start_queue};
 ghost use Rattle.hub_script.specs.Context.{require, run, tests, stands_in};
+ghost use Rattle.hub_script.specs.Fields.{IsRead};
 ghost use Rattle.hub_script.specs.Uses.{agents_named, members_named, names_used, others_named};
 ghost use Rattle.hub_script.specs.Uses.{ports_named, transfer_of};
 
@@ -22,7 +20,7 @@ use hub_envelope::{Body, BodyError, Items, MAX_PORTS, Text};
 
 /// An error unless the condition holds.
 fn require(condition: bool, error: ScriptError) -> Result<(), ScriptError>
-    ensures { IsReadAs ScriptError.OutOfMemory (λ _. tt) result (require error condition) }
+    ensures { IsRead result (require error condition) }
 {
     if condition { Ok(()) } else { Err(error) }
 }
@@ -67,9 +65,8 @@ impl ScriptReader {
 
     /// Makes the tests of the form. What is left of its body or URL is tested when it is added.
     pub(crate) fn test(&self, form: &Form) -> Result<(), ScriptError>
-        ensures says { IsReadAs ScriptError.OutOfMemory (λ _. tt) result
-            (run (tests (known self.now) form.now)) }
-        ensures room { OnOk result (line_count (known self.now).script < MAX_SCRIPT_LINES) }
+        ensures says { IsRead result (run (tests (known self.now) form.now)) }
+        ensures room { OnOk result (has_room (known self.now) ≡ true) }
         ensures within { OnOk result (is_within (known self.now) form.now ≡ true) }
     {
         require(self.is_placed(form), ScriptError::Syntax)?;

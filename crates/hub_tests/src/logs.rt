@@ -2,7 +2,7 @@
 //! tests/rows/check.
 use crate::refused_logs::{Refused, deliveries_text, text_of};
 use hub_envelope::{AgentId, Body, EndId, LineId};
-use hub_trace::{Log, Posted, is_name, is_port_list, read_logs};
+use hub_trace::{Content, Log, Payload, Posted, is_name, is_port_list, read_logs};
 use std::alloc::Global;
 use std::test::Fail;
 
@@ -25,8 +25,9 @@ fn first(alloc: Global) -> Result<Log, Refused> {
         return Err(Refused::Wrong);
     }
     let mut log = Log::new(alloc, AgentId(3));
-    log.put(alloc, POSTED, &ports, &body(alloc)?)?;
-    log.put_notice(POSTED)?;
+    let payload = Payload::copy_of(alloc, &ports, &body(alloc)?)?;
+    log.put(POSTED, Content::Payload(payload))?;
+    log.put(POSTED, Content::Notice)?;
     log.closed(EndId(2))?;
     Ok(log)
 }
@@ -38,8 +39,9 @@ fn second(alloc: Global) -> Result<Log, Refused> {
     }
     let mut log = Log::new(alloc, AgentId(15));
     log.adopted(EndId(9), 1)?;
-    log.got(alloc, POSTED, &[], &body(alloc)?)?;
-    log.got_notice(POSTED)?;
+    let payload = Payload::copy_of(alloc, &[], &body(alloc)?)?;
+    log.got(POSTED, Content::Payload(payload))?;
+    log.got(POSTED, Content::Notice)?;
     Ok(log)
 }
 

@@ -2,7 +2,8 @@
 // allocation is refused.
 use hub_envelope::{AgentId, Body, BodyError, EndId, LineId};
 use hub_trace::{
-    LOG_HEADER, Log, LogError, Posted, check, deliveries, is_name, is_port_list, read_logs,
+    Content, LOG_HEADER, Log, LogError, Payload, Posted, check, deliveries, is_name, is_port_list,
+    read_logs,
 };
 use std::alloc::{AllocError, AllocFailed, Global};
 use std::fmt;
@@ -70,6 +71,10 @@ fn append(alloc: Global, log: &mut Log, step: u32) -> Result<(), Refused> {
         epoch: 0,
         number: u64::from(step / 6),
     };
+    let noticed = Posted {
+        end: EndId(6),
+        ..posted
+    };
     let ports = [EndId(7), EndId(0)];
     let closed = EndId(100 + step % 100);
     if !is_name(&posted) || !is_port_list(&ports) || log.has_closed(closed) {
@@ -77,17 +82,17 @@ fn append(alloc: Global, log: &mut Log, step: u32) -> Result<(), Refused> {
     }
     let body = Body::read(alloc, "[1,{\"a\":null,\"b\":[]}]")?;
     match step % 6 {
-        0 => log.put(alloc, posted, &ports, &body)?,
-        1 => log.got(alloc, posted, &ports, &body)?,
+        0 => log.put(
+            posted,
+            Content::Payload(Payload::copy_of(alloc, &ports, &body)?),
+        )?,
+        1 => log.got(
+            posted,
+            Content::Payload(Payload::copy_of(alloc, &ports, &body)?),
+        )?,
         2 => log.adopted(EndId(5), 1)?,
-        3 => log.put_notice(Posted {
-            end: EndId(6),
-            ..posted
-        })?,
-        4 => log.got_notice(Posted {
-            end: EndId(6),
-            ..posted
-        })?,
+        3 => log.put(noticed, Content::Notice)?,
+        4 => log.got(noticed, Content::Notice)?,
         _ => log.closed(closed)?,
     }
     Ok(())

@@ -5,6 +5,7 @@ use Rattle.std.specs.declared.cmp.Ordering.{Ordering}
 use Rattle.std.specs.Ordering.{nat_cmp, ordering_then}
 use Rattle.hub_envelope.specs.declared.ids.AgentId.{AgentId}
 use Rattle.hub_envelope.specs.declared.ids.EndId.{EndId}
+use Rattle.hub_trace.specs.declared.content.Content.{Content}
 use Rattle.hub_trace.specs.declared.content.Content.TheVariants.{Payload, Notice}
 use Rattle.hub_envelope.specs.declared.posted.Posted.{Posted}
 use Rattle.hub_trace.specs.declared.log_entry.Delivery.{Delivery}
@@ -19,6 +20,10 @@ AgentLog = AgentId × List LogEntry
 -- the log with an entry more, the newest
 abbrev pub log_with : AgentLog → LogEntry → AgentLog
 log_with log e = (log.0, log.1 ++ e ∷ [])
+
+-- the content, under its name
+abbrev pub delivery_at : Posted → Content → Delivery
+delivery_at posted content = record { posted = posted; content = content }
 
 -- the message of these ports and this body, under its name
 abbrev pub message_at : Posted → List EndId → List ℕ → Delivery

@@ -2,16 +2,15 @@ ghost use Rattle.std.specs.Prelude.{Some, ◌≡◌, ◌≤◌, [], false, OnOk,
 ghost use Rattle.hub_trace.specs.declared.log_entry.LogEntry.TheVariants.{Put, Got, Adopted};
 ghost use Rattle.hub_trace.specs.declared.log_entry.LogEntry.TheVariants.{Closed};
 ghost use Rattle.hub_trace.specs.declared.limits.TheConstants.{MAX_AGENT, MAX_END, MAX_EPOCH};
-ghost use Rattle.hub_trace.specs.Accepted.{log_with, message_at, notice_at};
+ghost use Rattle.hub_trace.specs.Accepted.{delivery_at, log_with};
 ghost use Rattle.hub_trace.specs.declared.log_version.LogVersion.TheVariants.{Third};
 ghost use Rattle.hub_trace.specs.Closings.{closes_one, is_closed_by};
-ghost use Rattle.hub_trace.specs.Limits.{IsEntryWithin, IsPostedWithin, IsLogWithin, IsPortList};
+ghost use Rattle.hub_trace.specs.Limits.{IsEntryWithin, IsPostedWithin, IsLogWithin};
 ghost use Rattle.hub_trace.specs.Text.{log_text};
 
 use crate::content::Content;
 use crate::log_entry::{Delivery, LogEntry};
-use crate::payload::Payload;
-use hub_envelope::{AgentId, Body, EndId, OutOfMemory, Posted};
+use hub_envelope::{AgentId, EndId, OutOfMemory, Posted};
 use std::alloc::Global;
 use std::fmt;
 use std::marker::Model;
@@ -24,7 +23,8 @@ pub const LOG_HEADER: &str = "hublog 3";
 ///
 /// ```rust
 /// let mut log = Log::new(alloc, AgentId(0));
-/// log.put(alloc, Posted::of(&envelope), &[], &envelope.body)?;
+/// let payload = Payload::copy_of(alloc, &[], &envelope.body)?;
+/// log.put(Posted::of(&envelope), Content::Payload(payload))?;
 /// log.closed(EndId(2))?;
 /// let verdict = check(alloc, &[log])?;
 /// ```
@@ -89,59 +89,23 @@ impl Log {
         false
     }
 
-    /// Logs that a post was accepted under the name. An `Err` changes nothing.
-    pub fn put(
-        &mut self,
-        alloc: Global,
-        posted: Posted,
-        ports: &[EndId],
-        body: &Body,
-    ) -> Result<(), OutOfMemory>
-        requires posted { IsPostedWithin Third posted }
-        requires ports { IsPortList ports.now }
-        ensures ok { OnOk result
-            (self.new ≡ log_with self.old (Put (message_at posted ports.now body.now))) }
+    /// Logs that the agent put it under the name: a post that was accepted, or a notice. An `Err`
+    /// changes nothing.
+    pub fn put(&mut self, posted: Posted, content: Content) -> Result<(), OutOfMemory>
+        requires { IsPostedWithin Third posted }
+        ensures ok { OnOk result (self.new ≡ log_with self.old (Put (delivery_at posted content))) }
         ensures err { OnErr result (self.new ≡ self.old) }
     {
-        let content = Content::Payload(Payload::copy_of(alloc, ports, body)?);
         self.append(LogEntry::Put(Delivery { posted, content }))
     }
 
-    /// Logs that the agent put a notice under the name. An `Err` changes nothing.
-    pub fn put_notice(&mut self, posted: Posted) -> Result<(), OutOfMemory>
+    /// Logs that the agent took it under the name: an envelope, or a notice. An `Err` changes
+    /// nothing.
+    pub fn got(&mut self, posted: Posted, content: Content) -> Result<(), OutOfMemory>
         requires { IsPostedWithin Third posted }
-        ensures ok { OnOk result (self.new ≡ log_with self.old (Put (notice_at posted))) }
+        ensures ok { OnOk result (self.new ≡ log_with self.old (Got (delivery_at posted content))) }
         ensures err { OnErr result (self.new ≡ self.old) }
     {
-        let content = Content::Notice;
-        self.append(LogEntry::Put(Delivery { posted, content }))
-    }
-
-    /// Logs that the agent took the envelope of the name. An `Err` changes nothing.
-    pub fn got(
-        &mut self,
-        alloc: Global,
-        posted: Posted,
-        ports: &[EndId],
-        body: &Body,
-    ) -> Result<(), OutOfMemory>
-        requires posted { IsPostedWithin Third posted }
-        requires ports { IsPortList ports.now }
-        ensures ok { OnOk result
-            (self.new ≡ log_with self.old (Got (message_at posted ports.now body.now))) }
-        ensures err { OnErr result (self.new ≡ self.old) }
-    {
-        let content = Content::Payload(Payload::copy_of(alloc, ports, body)?);
-        self.append(LogEntry::Got(Delivery { posted, content }))
-    }
-
-    /// Logs that the agent took the notice of the name. An `Err` changes nothing.
-    pub fn got_notice(&mut self, posted: Posted) -> Result<(), OutOfMemory>
-        requires { IsPostedWithin Third posted }
-        ensures ok { OnOk result (self.new ≡ log_with self.old (Got (notice_at posted))) }
-        ensures err { OnErr result (self.new ≡ self.old) }
-    {
-        let content = Content::Notice;
         self.append(LogEntry::Got(Delivery { posted, content }))
     }
 

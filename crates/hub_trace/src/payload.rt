@@ -1,12 +1,12 @@
 ghost use Rattle.std.specs.Prelude.{◌≡◌, ◌↔◌, IsTrue, IfOk};
-ghost use Rattle.hub_envelope.specs.BodyText.{IsBodyText};
+ghost use Rattle.hub_trace.specs.Limits.{IsPortList};
 
 use hub_envelope::{Body, EndId, OutOfMemory};
 use std::alloc::Global;
 use std::marker::Model;
 
 /// What an envelope carries: the ends of the ports that travel with it, in list order, and its
-/// body.
+/// body. Any can stand in a log: it lists at most `MAX_PORTS` ends, and none of them twice.
 #[derive(Debug, Drop)]
 pub struct Payload {
     ports: Vec<EndId>,
@@ -19,26 +19,28 @@ impl Model for Payload {
 
     ghost Value = { List EndId × List ℕ };
 
+    ghost use Rattle.hub_trace.specs.Limits.{IsMessageWithin};
+    ghost use Rattle.hub_trace.specs.declared.log_version.LogVersion.TheVariants.{Third};
+
     ghost view = { λ m. (m.ports.items, m.body) };
+
+    ghost invariant = { λ m. IsMessageWithin Third (m.ports.items, m.body) };
 }
 
 impl Payload {
-    /// A copy of the ports and the body.
-    pub(crate) fn copy_of(
-        alloc: Global,
-        ports: &[EndId],
-        body: &Body,
-    ) -> Result<Payload, OutOfMemory>
-        ensures copy { IfOk result (λ message. message ≡ (ports.now, body.now)) }
-        ensures body { IfOk result (λ message. IsBodyText message.1) }
+    /// A copy of the ports and the body. An error says that there was no memory for them.
+    pub fn copy_of(alloc: Global, ports: &[EndId], body: &Body) -> Result<Payload, OutOfMemory>
+        requires { IsPortList ports.now }
+        ensures { IfOk result (λ message. message ≡ (ports.now, body.now)) }
     {
         let ports = Vec::from_slice(alloc, ports)?;
         let body = body.clone()?;
         Ok(Payload { ports, body })
     }
 
-    /// The message of these ports and this body. It takes no memory.
+    /// These ports and this body. It takes no memory.
     pub(crate) fn of(ports: Vec<EndId>, body: Body) -> Payload
+        requires { IsPortList ports.items }
         ensures { result ≡ (ports.items, body) }
     {
         Payload { ports, body }
