@@ -1,5 +1,5 @@
 -- Messages that were refused.
-use Rattle.std.proofs.Common.{arith, ◌≡◌, ◌≢◌, ℕ, ◌<◌, List, [], ◌∷◌, length, Err, refl, ap, sym, subst, inl, inr, ◌⊎◌, ◌∙◌}
+use Rattle.std.proofs.Common.{arith, ◌≡◌, ◌≢◌, ◌<◌, List, [], ◌∷◌, length, Err, refl, ap, sym, subst, inl, inr, ◌⊎◌, ◌∙◌}
 use Rattle.hub_envelope.specs.declared.envelope.Draft.{Draft}
 use Rattle.hub_envelope.specs.declared.ids.EndId.{EndId}
 use Rattle.hub_queue.specs.declared.error.PostError.{PostError}

@@ -1,13 +1,12 @@
-use Rattle.std.proofs.Common.{◌≡◌, ◌<◌, List, [], length, vec_len, Some, inr, refl, ap, sym, subst, ◌∙◌}
-use Rattle.hub_envelope.specs.declared.envelope.Draft.{Draft}
+use Rattle.std.proofs.Common.{◌≡◌, ◌<◌, List, [], length, vec_len, inr, refl, ap, sym, subst, ◌∙◌}
 use Rattle.hub_envelope.specs.declared.ids.EndId.{EndId}
 use Rattle.hub_ports.specs.declared.error.SendRefusal.TheVariants.{Doomed, TooManyPorts, Strayed}
 use Rattle.hub_queue.specs.Putting.{lent_list}
 use Rattle.hub_ports.specs.Refusing.{carried_body}
 use Rattle.hub_ports.specs.Seats.{ends_of}
-use Rattle.hub_ports.specs.Sending.{draft_of}
-use Rattle.hub_ports.proofs.Flights.{flight-whole, flown_back, line-whole}
-use Rattle.hub_ports.proofs.Refused.{IsNoList, flight-no-list, line-no-list, same_draft, refused_by_line, refused_by_flight, strayed-no-list, told_so}
+use Rattle.hub_ports.specs.Sending.{IsRefusedAtLine, draft_of}
+use Rattle.hub_ports.proofs.Flights.{flight-whole, flown_back}
+use Rattle.hub_ports.proofs.Refused.{IsNoList, flight-no-list, refused_by_line, refused_by_flight, strayed-no-list, told_so}
 use Rattle.hub_ports.proofs.Splits.{ends-begun, split-same}
 use Rattle.hub_ports.proofs.sending.post_with_ports.Goals as goal
 
@@ -64,5 +63,15 @@ returns-in-Err-clause-flown g c =
 pub returns-in-Err-post_lent-clause-sent : goal.returns-in-Err-post_lent-clause-sent
 returns-in-Err-post_lent-clause-sent g c = λ closings.
     let draft = draft_of c.args.agent (carried_body c.args.parcel.now) c.args.parcel.now.ports.items in
-    let list = c.in-Ok-of_list.ensures.ok ∙ c.in-Ok.ensures ∙ ap ends_of c.as_slice.ensures.value in
-    ?
+    let list : c.in-Ok-of_list.listed ≡ draft.ports = c.in-Ok-of_list.ensures.ok ∙ c.in-Ok.ensures ∙ ap ends_of c.as_slice.ensures.value in
+    let refused = subst (λ (ends : List EndId). IsRefusedAtLine c.args.line.now c.post_lent.new.self (record draft { ports = ends }) c.in-Err-post_lent.error) list c.in-Err-post_lent.ensures.posted in
+    let back = c.in-Err-post_lent.ensures.left.1 in
+    let out = c.unwrap-listed.ensures in
+    let same : c.unwrap-listed.result ≡ c.in-Ok-of_list.listed = cc in
+    let named : c.as_slice-in-Err-post_lent.result.now ≡ draft.ports = c.as_slice-in-Err-post_lent.ensures.listed ∙ same ∙ list in
+    let all : c.call_back-in-Err-post_lent.new.missing.items ≡ [] → c.refused-in-Err-post_lent.result ≡ c.of_line.result = λ none. c.refused-in-Err-post_lent.ensures.whole (c.as_slice-in-Err-post_lent-2.ensures.value ∙ none) in
+    let some : 0 < length c.call_back-in-Err-post_lent.new.missing.items → c.refused-in-Err-post_lent.result ≡ Strayed = λ more. c.refused-in-Err-post_lent.ensures.strayed (subst (λ (l : List EndId). 0 < length l) (sym c.as_slice-in-Err-post_lent-2.ensures.value) more) in
+    refused_by_line c.args.line.now c.post_lent.new.self draft c.args.parcel.now.ports.items
+    (record { body = c.post_lent.new.body; ports = c.call_back-in-Err-post_lent.new.ports; missing = c.call_back-in-Err-post_lent.new.missing }) closings
+    c.of_line.result c.refused-in-Err-post_lent.result c.in-Err-post_lent.error c.of_line.ensures (ap lent_list c.in-Err-post_lent.ensures.left.0)
+    (split-same _ _ _ _ _ _ named refl refl c.call_back-in-Err-post_lent.ensures.split) refused all some
