@@ -1,22 +1,13 @@
 //! The reader of one text line of step lines.
 
-ghost use Rattle.std.specs.Prelude.{
-  ◌≡◌,
-  ◌≢◌,
-  [],
-  ◌∷◌,
-  IfErr,
-  Ok,
-  false,
-  option_map,
-  true,
-};
+ghost use Rattle.std.specs.Prelude.{◌≡◌, ◌≢◌, [], ◌∷◌, IfErr, IfSome, None, Ok, bytes_eq};
+ghost use Rattle.std.specs.Prelude.{codes, false, option_map, true};
 ghost use Rattle.hub_text.specs.Reading.{IsReadAs};
 ghost use Rattle.hub_steps.specs.ReadMemory.{has_part, reads_memory, text_reads_memory};
 ghost use Rattle.hub_steps.specs.StepLine.{A, BODY, E, LIST, NAME, P, U, WORD, command_in};
 ghost use Rattle.hub_steps.specs.StepLine.{command_of, cut_after, last_word, line_read, mark};
-ghost use Rattle.hub_steps.specs.StepLine.{number_read, poster_named, step_line_of, word_read};
-ghost use Rattle.hub_steps.specs.StepLine.{words_after};
+ghost use Rattle.hub_steps.specs.StepLine.{number_read, poster_named, row_named, spelled};
+ghost use Rattle.hub_steps.specs.StepLine.{step_line_of, table, word_read, words_after};
 
 use crate::step_line::{AgentUrl, Command, PosterCommand, PosterName, StepLine, StepLineError};
 use hub_core::Action;
