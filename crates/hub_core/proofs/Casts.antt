@@ -1,13 +1,13 @@
 -- Broadcast channels: what their steps are answered, and the roster, agents and ends that they and the other steps leave.
 use Rattle.std.proofs.Common.{Bool, List, None, Option, Some, [], ap, append-nil, arith, cond, eqb, false, length, length-append, map, ne_eqb, not, refl, rules, subst, sym, true, ℕ, ◌&&◌, ◌++◌, ◌+◌, ◌<◌, ◌∙◌, ◌∷◌, ◌≡◌}
-use Rattle.hub_core.proofs.Words.{Action, AgentId, AllByRecursion, Answers, CastNow, Client, EndId, Facts, Group, IsFirst, IsMemberNow, Kind, Member, MemberLeaves, Outcome, PartLeaves, Port, Roster, RosterNow, SameRoster, ShowsRoster, Sound, SoundPlaces, Worker, agent_answer, IsSomeAnd, Joins, unwrap_or, option_map, agents_after, destinations_of, ends, facts, false≢true, filter, get, group_named, group_of, has_end, insert_key, is_casting, is_in, is_of_group, is_same_group, kind_after, leaves, nat_cmp, nat_tests, numbers, numbers_of, numbers_with}
-use Rattle.hub_core.proofs.Words.{others_of, part_answer, parted, roster_after, seated_without, slice_get, ◌==◌, is_some, Agent, End, maker_of, holder, is_empty, cast_answer, destinations, CoreState, Members, seen, kept_destinations, cast_to, is_seated}
+use Rattle.hub_core.proofs.Words.{Action, AgentId, AllByRecursion, Answers, CastNow, Client, EndId, Facts, Group, IsFirst, IsMemberNow, Kind, Member, MemberLeaves, Outcome, PartLeaves, Port, Roster, RosterNow, SameRoster, ShowsRoster, Sound, SoundPlaces, Worker, IsSomeAnd, Joins, unwrap_or, option_map, agents_after, destinations_of, ends, facts, false≢true, filter, get, group_named, group_of, has_end, insert_key, is_casting, is_in, is_of_group, is_same_group, kind_after, leaves, nat_cmp, nat_tests, numbers, numbers_of, numbers_with}
+use Rattle.hub_core.proofs.Words.{others_of, parted, roster_after, seated_without, slice_get, ◌==◌, is_some, Agent, End, maker_of, holder, is_empty, destinations, CoreState, Members, seen, kept_destinations, cast_to, is_seated}
+use Rattle.hub_core.specs.Legal.{agent_answer, cast_answer, part_answer}
 use Rattle.hub_core.specs.declared.step.Action.TheVariants as action
-use Rattle.hub_core.specs.declared.outcome.Outcome.TheVariants as outcome
+use Rattle.hub_core.specs.declared.step.Outcome.TheVariants as outcome
 use Rattle.hub_core.proofs.SoundPlaces.{kind_next}
-use Rattle.hub_core.proofs.Fitting.{member_made_of, new_agent, hit, both_tests}
+use Rattle.hub_core.proofs.Nexts.{member_made_of, new_agent, hit, both_tests, next, Change, cast_begun}
 use Rattle.hub_core.proofs.Items.{eqb_same, each_pushed}
-use Rattle.hub_core.proofs.Nexts.{next, Change, cast_begun}
 use Rattle.hub_core.proofs.Seats.{all_at, all_more, all_without, group_flips, group_same, insert_last, is_in_with, numbers_below, numbers_less, numbers_more, numbers_same, others_with}
 use Rattle.hub_core.proofs.Speakers.{kind_made, old_one, made_by}
 use Rattle.hub_core.proofs.Frames.{ShownWith, Stepped}

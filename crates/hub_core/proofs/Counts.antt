@@ -130,7 +130,7 @@ none_counted test (suc n) = elim (test n) as (λ b. eqb (total (λ x. cond (test
 
 -- ---- agents
 
--- an agent of those of which one was changed
+-- any agent, after one of them was changed
 pub change_get : (change : Agent → Agent) (agents : List Agent) (b a : ℕ) → slice_get (change_at change b agents) a ≡ cond (eqb a b) (option_map change (slice_get agents a)) (slice_get agents a)
 change_get change agents b a = at_test (λ o. slice_get (change_at change b agents) a ≡ o) (eqb a b) (option_map change (slice_get agents a)) (slice_get agents a)
     (λ is. let same : a ≡ b = eqb-true a b is in

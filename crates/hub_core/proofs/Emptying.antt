@@ -1,14 +1,14 @@
 -- What the core answers to Look, Sweep and Take fits, and it shows the facts with the answered step.
 use Rattle.std.proofs.Common.{Bool, List, None, Option, Some, [], ap, append-nil, append_assoc, arith, cond, drop, eqb, false, get_or, leb-false, leb-true, length, length-set, lt-ltb, ltb-false, ltb-true, nat_le, nat_lt, ne_eqb, not, refl, rules, set, subst, suc, sym, true, zero, ℕ, ◌&&◌, ◌++◌, ◌+◌, ◌-◌, ◌<◌, ◌||◌, ◌∙◌, ◌∷◌, ◌≡◌, ◌≤◌, ⊎_elim}
 use Rattle.hub_core.proofs.Words.{Agent, AgentId, AllByRecursion, Arrived, CoreState, End, EndId, EndNow, Envelope, Facts, FitsSweep, FitsTake, InFlight, Inside, IsAllWaiting, IsDrained, IsLeft, IsNext, IsOfEnd, KeepsQueues, Line, LineNow, MatchBool, Outcome, Rises, Serves, ShowsEnd, Sound, Swept, with_agent, running, change_at, set_at, TakeServes, With, advanced_end, all_settled, and_parts, any_below, append_cancel_left, arrived, arrived_ends, by, eqb-true, false_from_ne_true, false≢true, filter-append, first_failing, front_taken, holder}
-use Rattle.hub_core.proofs.Words.{in_queue, is_anyone_at, is_anyone_from, is_away_at, is_named, is_out, is_settled, is_some, is_with, joined, kept_looked, kept_settled, le-leb, le-ltb, line_now, lines_of, list_any, look_answer, lookable, looked, moved_ends, names, nat_tests, no_end, option_map, ports_of, seen, slice_get, slice_get_within, someone_at, start_answer, sweep_outcome_at, cases_eq, cases_lt, FitsTake, ServesAt, found_at, kept_lines, option_and_then, get_or-set_other, get_or-set_same, list_any-append, or-true, or_assoc}
-use Rattle.hub_core.specs.declared.outcome.Outcome.TheVariants as outcome
+use Rattle.hub_core.proofs.Words.{in_queue, is_anyone_at, is_anyone_from, is_away_at, is_named, is_out, is_settled, is_some, is_with, joined, kept_looked, kept_settled, le-leb, le-ltb, line_now, lines_of, list_any, lookable, looked, moved_ends, names, nat_tests, no_end, option_map, ports_of, seen, slice_get, slice_get_within, someone_at, sweep_outcome_at, cases_eq, cases_lt, FitsTake, ServesAt, found_at, kept_lines, option_and_then, get_or-set_other, get_or-set_same, list_any-append, or-true, or_assoc}
+use Rattle.hub_core.specs.Taking.{look_answer, start_answer}
+use Rattle.hub_core.specs.declared.step.Outcome.TheVariants as outcome
 use Rattle.hub_core.specs.declared.step.Action.TheVariants as action
 use Rattle.hub_core.proofs.Counts.{calm_landed, counted_ports, counts_of, counts_still}
 use Rattle.hub_core.proofs.Frames.{ShownAfter, found_end, ShownAt, Stepped, changed, end_changed, end_restated, same_queues, end_there}
-use Rattle.hub_core.proofs.Fitting.{any_of, each_of, got_of, miss, none_of_any, pass, started_of, swept_of, went_on_of, cleared_of, served_when}
+use Rattle.hub_core.proofs.Nexts.{any_of, each_of, got_of, miss, none_of_any, pass, started_of, swept_of, went_on_of, cleared_of, served_when, Change, cleared, end_swept, got, next, started, went_on}
 use Rattle.hub_core.proofs.Items.{AllByRecursion-append, AllByRecursion-weaker, below_last, each_changed, eqb_same, is_there, or_none, at_test}
-use Rattle.hub_core.proofs.Nexts.{Change, cleared, end_swept, got, next, started, went_on}
 use Rattle.hub_core.proofs.LineSteps.{Moves, moved_end, moved_shown, moves_of, moves_to}
 use Rattle.hub_core.proofs.Seeing.{Sees, seen_is, SoundlyShows}
 use Rattle.hub_core.proofs.SoundLines.{line_epochs, nobody_there, nothing_more, rises_joined, same_rises, taken_prefix}
@@ -23,7 +23,7 @@ any_front : (test : ℕ → Bool) (n : ℕ) → any_below test (suc n) ≡ (test
 any_front test zero = or_none (test 0)
 any_front test (suc n) = ap (λ b. b || test (suc n)) (any_front test n) ∙ or_assoc (test 0) (any_below (λ l. test (suc l)) n) (test (suc n))
 
--- what is asked of the lines that are kept, and of the lines of the facts
+-- a test of the lines that are kept is the same test of the lines of the facts
 any_lines : (q : LineNow → Bool) (test : ℕ → Bool) (ys : List Line) → ((l : ℕ) → test l ≡ q (line_now (slice_get ys l))) → any_below test (length ys) ≡ list_any (λ y. q (line_now (Some y))) ys
 any_lines q test [] h = refl
 any_lines q test (y ∷ ys) h =
@@ -298,7 +298,7 @@ module _ (f : Facts) (e : ℕ) (x : End) (s : Sound f) (h : ShownAt f e (Some x)
 
 -- ---- what is kept is all that waits
 
--- queues of which each holds envelopes of its epoch alone, from the epoch t on
+-- queues from the epoch t on; each holds only envelopes of its own epoch
 abbrev AreFrom : ℕ → List (List Envelope) → Type 0
 AreFrom t queues = (i : ℕ) → AllByRecursion (λ (v : Envelope). v.epoch ≡ t + i) (get_or queues i [])
 

@@ -1,18 +1,19 @@
 -- What makes agents and ends, and what moves lines and ends: what the core answers fits, and it shows the facts with the answered step.
 use Rattle.std.proofs.Common.{Bool, List, None, Option, Some, [], ap, append_assoc, arith, cond, eqb, false, get_or, inl, inr, length, length-append, length-set, nat_lt, ne_eqb, refl, replicate, rules, set, subst, suc, sym, true, zero, ℕ, ◌&&◌, ◌++◌, ◌+◌, ◌<◌, ◌||◌, ◌∙◌, ◌∷◌, ◌≡◌, ◌≤◌, not, ◌⊎◌}
-use Rattle.hub_core.proofs.Words.{Agent, AgentId, AgentNow, AllByRecursion, Arrived, Client, CoreState, End, EndId, EndNow, Envelope, Facts, Gone, Inside, IsOfEnd, Kind, Line, LineNow, MAX_ENDS, Member, Outcome, Port, Sender, ShowsEnd, ShowsFacts, ShowsPut, Sound, With, Worker, adopt_answer, change_at, set_at, has_one, adopted_agents, adopted_end, adopting, agent_answer, agent_now, at_queue, channel_answer, close_answer, closed_end, count_away, count_in_queue, count_of, end_now, ends, eqb-true, false_from_ne_true, false≢true, filter}
-use Rattle.hub_core.proofs.Words.{first_agent, is_queue_of, first_line, gone, hand_answer, hop_answer, in_queue, is_here, is_out, is_queue, is_released, is_with, kept_away, length-replicate, line_now, lines_of, member_answer, nat_tests, new_end, no_end, no_line, one_more, option_map, peer_of, queue_answer, seen, slice_get, slice_get_past, taken, went, and-false}
+use Rattle.hub_core.proofs.Words.{Agent, AgentId, AgentNow, AllByRecursion, Arrived, Client, CoreState, End, EndId, EndNow, Envelope, Facts, Gone, Inside, IsOfEnd, Kind, Line, LineNow, MAX_ENDS, Member, Outcome, Port, Sender, ShowsEnd, ShowsFacts, ShowsPut, Sound, With, Worker, change_at, set_at, has_one, adopted_agents, adopted_end, adopting, agent_now, at_queue, closed_end, count_away, count_in_queue, count_of, end_now, ends, eqb-true, false_from_ne_true, false≢true, filter}
+use Rattle.hub_core.proofs.Words.{first_agent, is_queue_of, first_line, gone, in_queue, is_here, is_out, is_queue, is_released, is_with, kept_away, length-replicate, line_now, lines_of, nat_tests, new_end, no_end, no_line, one_more, option_map, peer_of, seen, slice_get, slice_get_past, taken, went, and-false}
+use Rattle.hub_core.specs.Taking.{adopt_answer, close_answer, hand_answer, hop_answer}
+use Rattle.hub_core.specs.Legal.{agent_answer, channel_answer, member_answer, queue_answer}
 use Rattle.hub_core.proofs.Counts.{Counted, IsCalmAt, OneEnd, adopted_now, away_more, calm_gone, calm_places, came_away, change_length, come_length, come_now, counted_came, counted_went, counts_at, counts_of, counts_still, end_went, gone_length, gone_now, none_at, none_counted}
 use Rattle.hub_core.proofs.Casts.{roster_agent}
 use Rattle.hub_core.proofs.Frames.{ShownAfter, ShownWith, Stepped, changed, end_changed, end_restated, end_there, found_end, found_line, line_changed, line_set, recounted, same_queues, with_line}
-use Rattle.hub_core.proofs.Fitting.{adopted_of, closed_of, handed_of, hopped_of, member_made_of, new_agent, new_ends, queue_made_of}
+use Rattle.hub_core.proofs.Nexts.{adopted_of, closed_of, handed_of, hopped_of, member_made_of, new_agent, new_ends, queue_made_of, Change, adopted, agent_made, channel_made, client_made, end_closed, handed, hopped, next, worker_made}
 use Rattle.hub_core.proofs.Items.{at_test, each_pushed, eqb_same, set_again}
 use Rattle.hub_core.proofs.SoundPlaces.{one_made}
-use Rattle.hub_core.proofs.Nexts.{Change, adopted, agent_made, channel_made, client_made, end_closed, handed, hopped, next, worker_made}
 use Rattle.hub_core.proofs.Seeing.{Sees, SoundlyShows, seen_is, with_roster}
 use Rattle.hub_core.proofs.Speakers.{nothing_accepted, nothing_removed, placed_made, running_made}
 use Rattle.hub_core.proofs.SoundLines.{gone_line, line_there}
-use Rattle.hub_core.specs.declared.outcome.Outcome.TheVariants as outcome
+use Rattle.hub_core.specs.declared.step.Outcome.TheVariants as outcome
 use Rattle.hub_core.specs.declared.step.Action.TheVariants as action
 
 -- ---- Agent

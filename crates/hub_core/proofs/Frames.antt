@@ -6,7 +6,7 @@ use Rattle.hub_core.proofs.Seeing.{SoundlyShows}
 use Rattle.hub_core.proofs.Nexts.{next}
 use Rattle.hub_core.proofs.Counts.{Counted}
 
--- ==== What a step leaves alone: an end of which no fact changes is shown as before, and so is each other line where one changes.
+-- ==== What a step leaves alone: an end whose facts stay the same is shown as before, and where one line changes, so are the others.
 
 -- what is shown of an end
 abbrev pub ShownAt : Facts → ℕ → Option End → Type 0

@@ -3,17 +3,16 @@ use Rattle.std.proofs.Common.{take, Bool, List, None, Option, Some, [], ap, appe
 use Rattle.hub_core.proofs.Words.{Action, AllByRecursion, Answers, Core, End, EndId, Envelope, Facts, Fates, Fits, FitsSweep, FitsTake, Headline, History, InOrder, Inside, IsAllWaiting, IsBusyAt, IsDrained, IsDrainedAt, IsLeft, IsNext, IsTurned, KeepsQueues, KeepsTheLine, Legal, LegalAfter, LineNow, MatchBool, NoticeIsLast, OneAnswer, Out, Outcome, Pair, Phase, Prefix, Rises, SameIsJoined, Sender, Serves, Shows, Sound, Step, Sweeps, Turned, TurnedPutsNothing, accepted, accepted_by, all_settled, and_from, and_parts, by, cases_lt, closed_after, discarded}
 use Rattle.hub_core.proofs.Words.{discarded_by, ends, answered, eq-eqb, eqb-true, ext_get_or, facts, false_from_ne_true, false≢true, filter, filter-append, flat_map, flat_map-append, flights, get_or-append_seam, get_or_append_left, hears_notice, holder, in_queue, is_away_at, is_inside, is_line, is_out, is_some, leaves, lines_of, list_any, map-append, names, naming, not-false, not-true, numbers, on_line, opened, or_from, or_left, or_parts, or_right, phase_of_line, place, poster, posts, same_name, slice_get, someone_at, taken, taken_by, total, up_to, waiting, drop-append_seam, take-append_seam}
 use Rattle.hub_core.proofs.SoundPlaces.{speaker_next}
-use Rattle.hub_core.proofs.Fitting.{SweptWith, any_of, found_closed_of, found_moved_of, got_of, let_in_of, noticed_of, pushed_of, served_of, swept_of}
+use Rattle.hub_core.proofs.Nexts.{SweptWith, any_of, found_closed_of, found_moved_of, got_of, let_in_of, noticed_of, pushed_of, served_of, swept_of, facts_next, next}
 use Rattle.hub_core.proofs.Sames.{by_pairs, legal_apart, legal_at, legal_joined, turned_leaves, turned_same}
 use Rattle.hub_core.proofs.Items.{AllByRecursion-append, AllByRecursion-weaker, at_test, eqb_same}
-use Rattle.hub_core.proofs.Nexts.{facts_next, next}
 use Rattle.hub_core.proofs.SoundLines.{Numbered, by_more, on_place, got_prefix, inside_of, nobody_there, taken_prefix}
 use Rattle.hub_core.proofs.Sounds.{sound_legal}
 use Rattle.hub_core.proofs.Totals.{all_pass, count_append, count_lines, filter_both, joined, length-up_to, none_fail, nothing_more, nothing_there, of_line, total_same, bound_of}
 use Rattle.hub_core.proofs.Waits.{all_back, all_both, all_kept, filters, queue_more}
 use Rattle.hub_core.proofs.Speakers.{nothing_accepted, nothing_removed}
 use Rattle.hub_core.proofs.Frames.{ShownAt}
-use Rattle.hub_core.specs.declared.outcome.Outcome.TheVariants as outcome
+use Rattle.hub_core.specs.declared.step.Outcome.TheVariants as outcome
 use Rattle.hub_core.specs.declared.step.Action.TheVariants as action
 
 -- ---- a prefix of numbered envelopes is numbered

@@ -4,7 +4,6 @@ pub mod Nexts
 pub mod Sames
 pub mod Seeing
 pub mod Totals
-pub mod Fitting
 pub mod SoundLines
 pub mod Speakers
 pub mod SoundPlaces

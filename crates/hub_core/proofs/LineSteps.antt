@@ -1,13 +1,14 @@
 -- What the core answers to Enter, Leave, Line, Back, Order, See, Push and Notice fits, and it shows the facts with the answered step.
 use Rattle.std.proofs.Common.{Bool, List, None, Option, Some, [], ap, append_assoc, arith, cond, eqb, false, get_or, inl, inr, leb-true, length, length-append, length-set, lt-ltb, ltb-true, nat_le, nat_lt, ne_eqb, not, refl, rules, set, subst, suc, sym, true, zero, ℕ, ⊎_elim, ◌&&◌, ◌++◌, ◌+◌, ◌-◌, ◌<◌, ◌||◌, ◌∙◌, ◌∷◌, ◌≡◌, ◌≤◌}
-use Rattle.hub_core.proofs.Words.{Acceptance, Action, Agent, AgentId, AgentNow, Answers, CoreState, End, EndId, EndNow, Envelope, Facts, InFlight, Inside, Kind, Line, LineNow, MAX_LINES, Member, Out, Outcome, Phase, Place, Port, Sender, ShowsEnd, ShowsFacts, ShowsPut, Sound, Turned, With, change_at, set_at, counted, accept_ends, agent_now, and_parts, any_below, back_answer, cases_eq, cases_lt, cast_after, change_line, change_owner, count_away, count_in_queue, end_moved, end_now, enter_answer, eqb-true, false≢true, filter}
-use Rattle.hub_core.proofs.Words.{filter-append, first_failing, first_free, free_line, has_away, has_queue, held_by, if◌then◌else◌, in_phase, in_queue, is_away_of, is_holder, is_inside, is_out, is_posting, is_queue, is_some, kept_away, kept_lines, le-leb, leave_answer, line_answer, line_found, line_now, lines_of, may_enter, moved_ends, named_envelope, named_notice, names, no_line, notice_answer, option_map, order_answer, owner, owner_by, peer_of, phase_of_line, position, position_from, position_from-zero}
-use Rattle.hub_core.proofs.Words.{posting_at, posting_line, push_answer, put_end, see_answer, seen, slice_get, slice_get_within, total, with_agent, first_line, line_answer, line_of, may_put, notice_answer, option_and_then, put_there, unwrap_or, count_of, get_or-set_other, get_or-set_same}
+use Rattle.hub_core.proofs.Words.{Acceptance, Action, Agent, AgentId, AgentNow, Answers, CoreState, End, EndId, EndNow, Envelope, Facts, InFlight, Inside, Kind, Line, LineNow, MAX_LINES, Member, Out, Outcome, Phase, Place, Port, Sender, ShowsEnd, ShowsFacts, ShowsPut, Sound, Turned, With, change_at, set_at, counted, accept_ends, agent_now, and_parts, any_below, cases_eq, cases_lt, cast_after, change_line, change_owner, count_away, count_in_queue, end_moved, end_now, eqb-true, false≢true, filter}
+use Rattle.hub_core.proofs.Words.{filter-append, first_failing, first_free, free_line, has_away, has_queue, held_by, if◌then◌else◌, in_phase, in_queue, is_away_of, is_holder, is_inside, is_out, is_posting, is_queue, is_some, kept_away, kept_lines, le-leb, line_found, line_now, lines_of, may_enter, moved_ends, named_envelope, named_notice, names, no_line, option_map, owner, owner_by, peer_of, phase_of_line, position, position_from, position_from-zero}
+use Rattle.hub_core.proofs.Words.{posting_at, posting_line, put_end, seen, slice_get, slice_get_within, total, with_agent, first_line, line_of, may_put, option_and_then, put_there, unwrap_or, count_of, get_or-set_other, get_or-set_same}
+use Rattle.hub_core.specs.Legal.{back_answer, line_answer, order_answer, see_answer}
+use Rattle.hub_core.specs.Posting.{enter_answer, leave_answer, notice_answer, push_answer}
 use Rattle.hub_core.proofs.Counts.{Counted, away_at, calm_held, calm_sent, change_each, change_get, change_length, counted_entered, counted_left, counted_ports, counts_of, counts_still, free_out, none_counted, owner_length, owner_now_away, owner_now_out, phase_away, same_count}
 use Rattle.hub_core.proofs.Casts.{recast}
 use Rattle.hub_core.proofs.Frames.{FoundLine, ShownAfter, ShownAt, ShownWith, Stepped, changed, end_restated, end_there, found_line, line_changed, line_set, recounted, same_queues}
-use Rattle.hub_core.proofs.Fitting.{Entered, back_of, first_failing_of, found_closed_of, found_moved_of, hit, left_of, let_in_of, line_got_of, noticed_of, pushed_of, pass}
-use Rattle.hub_core.proofs.Nexts.{Change, agent_ended, agent_ordered, found_closed, found_moved, left, let_in, line_back, line_got, next, notice_put, put}
+use Rattle.hub_core.proofs.Nexts.{Entered, back_of, first_failing_of, found_closed_of, found_moved_of, hit, left_of, let_in_of, line_got_of, noticed_of, pushed_of, pass, Change, agent_ended, agent_ordered, found_closed, found_moved, left, let_in, line_back, line_got, next, notice_put, put}
 use Rattle.hub_core.proofs.Seeing.{Sees, SoundlyShows, seen_is}
 use Rattle.hub_core.proofs.SoundLines.{LinesAt, held_line_as, line_there, phased_line, queue_lines, told_line, inside_of}
 use Rattle.hub_core.proofs.Speakers.{hears_of, made_of, no_member, no_port, placed_made, running_made, travels, with_found}
@@ -15,7 +16,7 @@ use Rattle.hub_core.proofs.Totals.{bit}
 use Rattle.hub_core.proofs.Items.{each_set, eqb_same, got_there, is_there}
 use Rattle.hub_core.proofs.SoundPlaces.{some_own}
 use Rattle.hub_core.proofs.Waits.{queue_more, queue_other}
-use Rattle.hub_core.specs.declared.outcome.Outcome.TheVariants as outcome
+use Rattle.hub_core.specs.declared.step.Outcome.TheVariants as outcome
 use Rattle.hub_core.specs.declared.step.Action.TheVariants as action
 
 -- ==== Enter and Leave: what the core answers fits, and it shows the facts with the answered step.
@@ -235,7 +236,7 @@ now_each agents f a c change new h x at mine other = elim (eqb c a) as (λ b. eq
   | false ↦ λ _. other (f.agent c) ∙ h c
 ] refl ∙ ap agent_now (sym (change_get change agents a c))
 
--- the facts with one agent changed, of which nothing is counted anew
+-- the facts with one agent changed, where all that is counted stays the same
 agent_set : (c : CoreState) (f : Facts) (a : ℕ) (change : Agent → Agent) (new : Bool → AgentNow → AgentNow) (x : Agent) → Sees c f → slice_get c.agents a ≡ Some x → new true (agent_now (Some x)) ≡ agent_now (Some (change x)) → ((w : AgentNow) → new false w ≡ w)
     → ((z : Agent) → (change z).clients ≡ z.clients) → ((z : Agent) → (change z).workers ≡ z.workers) → ((z : Agent) → (change z).away ≡ z.away) → ShowsFacts (change_at change a c.agents) c.ends (record f { agent = λ d. new (eqb d a) (f.agent d) })
 agent_set c f a change new x h at mine other clients workers away = record {

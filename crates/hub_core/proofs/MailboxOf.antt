@@ -1,13 +1,13 @@
 -- The mailbox of an end goes on by the events of each pair that fits.
 use Rattle.std.proofs.Common.{Bool, List, None, Option, Some, [], ap, arith, cond, eqb, false, inl, length, not, refl, subst, sym, true, ℕ, ◌&&◌, ◌++◌, ◌+◌, ◌-◌, ◌<◌, ◌∷◌, ◌≡◌, ◌≤◌, set, ◌∙◌, append_assoc, append-nil, length-set, length-append, zero, suc, map, replicate, ⊎_elim, ne_eqb}
-use Rattle.hub_core.proofs.Words.{Action, Answers, Client, EndId, Facts, FitsSweep, FitsTake, HoldsNothing, Inside, IsDrained, IsLeft, IsSettled, Kind, Mailbox, MailboxEvent, Member, OneRight, Out, Outcome, Port, Sound, Turned, Worker, add, advance, at_gate, close, enable, enter, eqb-true, Serves, found_at, events_of, finds_busy, finds_busy_at, gives_rights, hop, in_queue, kind_after, leaving, lets_in, lines_of, look, look_answer, looked, named_envelope, named_notice, not-false, opened, or_parts, pop, push, rights_of, says_closed, says_done, says_moved, someone_at}
+use Rattle.hub_core.proofs.Words.{Action, Answers, Client, EndId, Facts, FitsSweep, FitsTake, HoldsNothing, Inside, IsDrained, IsLeft, IsSettled, Kind, Mailbox, MailboxEvent, Member, OneRight, Out, Outcome, Port, Sound, Turned, Worker, add, advance, at_gate, close, enable, enter, eqb-true, Serves, found_at, events_of, finds_busy, finds_busy_at, gives_rights, hop, in_queue, kind_after, leaving, lets_in, lines_of, look, looked, named_envelope, named_notice, not-false, opened, or_parts, pop, push, rights_of, says_closed, says_done, says_moved, someone_at}
 use Rattle.hub_core.proofs.Words.{sweeping, unsettled, flat_map, slice_get, get_or_from_slice_get, append_cancel_left, filter-append, Envelope, Prefix, Gate, Steps, finds_moved, Queue, new_queue, pushed, QueueAt, got_from, IsMailbox, put_in, got_in, MailboxStep, gate_steps, pushes, takes, sweeps, finds_none, hops, advances, adds, HoldsFirst, without_first, taken_out, with_gate, with_queue, with_stand, with_new, Happen, gate_after, with_gate_after, with_queue_after, after_event, after_events, false≢true, false_from_ne_true, flat_map-append}
 use Rattle.hub_core.proofs.Words.{length-replicate, Phase, EndNow, LineNow, accepted_by, ends_after, by, no_end, no_line, IsAt, new_mailbox, first_mailbox, made_as, after_pair, eq-eqb, cases_eq}
+use Rattle.hub_core.specs.Taking.{look_answer}
 use Rattle.hub_core.specs.declared.step.Action.TheVariants as action
-use Rattle.hub_core.specs.declared.outcome.Outcome.TheVariants as outcome
-use Rattle.hub_core.proofs.Fitting.{FindsBusy, adopted_of, cleared_of, got_of, hopped_of, look_busy_of, noticed_of, pushed_of, swept_of, went_on_of, served_of, new_ends, queue_made_of, member_made_of}
+use Rattle.hub_core.specs.declared.step.Outcome.TheVariants as outcome
+use Rattle.hub_core.proofs.Nexts.{FindsBusy, adopted_of, cleared_of, got_of, hopped_of, look_busy_of, noticed_of, pushed_of, swept_of, went_on_of, served_of, new_ends, queue_made_of, member_made_of, next, accepted_one}
 use Rattle.hub_core.proofs.MailboxShown.{IsShown, Leads, ShownAt, View, at_end_or, view, HasRight, Runs}
-use Rattle.hub_core.proofs.Nexts.{next, accepted_one}
 use Rattle.hub_core.proofs.PairGates.{closed_there, entered, left_line, started_there, turned_closed, turned_moved, with_line, adopted_there, hopped_there, went_on_there, with_next, with_queue_new, with_taker_at}
 use Rattle.hub_core.proofs.PairQueues.{SweepsBusy, busy_there, cleared_there, look_busy_there, settled_there, sweep_busy_of, sweep_busy_there, none_there, noticed_there, pushed_there, taken_all, taken_there, swept_there, got_there_in}
 use Rattle.hub_core.specs.GateMachine as machine
@@ -49,7 +49,7 @@ module _ (f : Facts) (e : ℕ) (m : Mailbox OneRight) (sound : Sound f) (shown :
 
   -- ---- takes that find no envelope
 
-  -- a retired queue of which everything was taken
+  -- a retired queue, from which everything was taken
   left_all : (x : EndId) → ShownAt f x.0 m → (f.end x.0).closed ≡ false → IsLeft f x → HoldsNothing m m.taker
   left_all x there opened empty = taken_all f x.0 m there (none_discarded x.0 opened) empty.all
 

@@ -1,11 +1,12 @@
 -- The pairs that are events of gates: of a line at its gate, a Start and a Close; and those that move a line or the taker, or add
 -- a queue.
 use Rattle.std.proofs.Common.{◌≡◌, ℕ, ◌+◌, ◌<◌, ◌≤◌, ◌&&◌, Bool, true, false, true≢false, cond, eqb, [], ◌∷◌, length, map, set, refl, sym, ap, subst, ◌∙◌, ⊎_elim, arith, Option, Some, None, not, ltb-true, ltb-false, List, append-nil, length-set, length-append, ne_eqb}
-use Rattle.hub_core.proofs.Words.{slice_get, is_some, false≢true, false_from_ne_true, or_from, cases_lt, Phase, Out, Inside, Turned, Sender, LineNow, Facts, lines_of, is_out, enter_answer, leave_answer, Sound, Gate, IsAt, with_phase, with_home, with_flags, finds_moved, finds_closed, goes_in, goes_out, turns_back, enables, closes, leaves_right, IsGateOf, Mailbox, IsNewest, at_gate, MailboxStep, gate_steps, with_gate, OneRight, enabled_of, leaving, eq-eqb, length-map, opened, retires, GateAt, StandsAt, hop, advance, add, hops, advances, adds, with_stand, with_taker, with_new, IsSettled, HoldsNothing, Grows, rights_of, phase_of_line, may_enter}
-use Rattle.hub_core.specs.declared.outcome.Outcome.TheVariants as outcome
+use Rattle.hub_core.proofs.Words.{slice_get, is_some, false≢true, false_from_ne_true, or_from, cases_lt, Phase, Out, Inside, Turned, Sender, LineNow, Facts, lines_of, is_out, Sound, Gate, IsAt, with_phase, with_home, with_flags, finds_moved, finds_closed, goes_in, goes_out, turns_back, enables, closes, leaves_right, IsGateOf, Mailbox, IsNewest, at_gate, MailboxStep, gate_steps, with_gate, OneRight, enabled_of, leaving, eq-eqb, length-map, opened, retires, GateAt, StandsAt, hop, advance, add, hops, advances, adds, with_stand, with_taker, with_new, IsSettled, HoldsNothing, Grows, rights_of, phase_of_line, may_enter}
+use Rattle.hub_core.specs.Posting.{enter_answer, leave_answer}
+use Rattle.hub_core.specs.declared.step.Outcome.TheVariants as outcome
 use Rattle.hub_core.specs.GateMachine as machine
 use Rattle.hub_core.proofs.Items.{got_there, got-map, got_of-map, got_within, at_written, at_pushed, is_out_of}
-use Rattle.hub_core.proofs.Fitting.{is_retired, let_in_of, found_moved_of, found_closed_of, left_of}
+use Rattle.hub_core.proofs.Nexts.{is_retired, let_in_of, found_moved_of, found_closed_of, left_of}
 use Rattle.hub_core.proofs.SoundLines.{line_there, LinesAt}
 use Rattle.hub_core.proofs.MailboxStepping.{step_kept}
 use Rattle.hub_core.proofs.MailboxShown.{View, view, ShownAt, HasRight, Leads, one_step, Standing, standing, phase_shown, flags_shown, IsShown, event_grows}

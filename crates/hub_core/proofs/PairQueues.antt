@@ -4,12 +4,12 @@ use Rattle.hub_core.proofs.Words.{slice_get, flat_map, filter, AllByRecursion, a
 use Rattle.hub_core.proofs.Words.{eq-eqb, cases_eq, cases_lt, or_cases, or_left, or_right, length-map, sum_by-cons, Phase, Out, is_out, is_away_at, someone_at, is_settled, all_settled, FitsSweep, Sound, Gate, weight, busy, is_shut, IsAt, with_none, is_busy, gives, IsGateOf, GateAt, StandsAt, at_gate, gate_steps, with_gate, IsSettled, busy_at, rights_of, finds_busy, unsettled, IsAllWaiting, IsOfEnd, popped, MailboxEvent, sweeps, MaySweep, sweeping}
 use Rattle.hub_core.proofs.Items.{eqb_same, AllByRecursion-weaker, set_again, is_out_of, slice_get-set_same, slice_get-set_other, none_got, some_is, got_there, got_within, got_same}
 use Rattle.hub_core.proofs.Waits.{all_kept, filters, queue_more, all_of_queue, none_of_queue, all_front, first_of, left_same}
-use Rattle.hub_core.proofs.Fitting.{Pushed, Noticed, any_of, none_of_any, FirstFailing, first_failing_of, LooksAt, Clears, FindsBusy, looked_where, SweptWith, each_of}
+use Rattle.hub_core.proofs.Nexts.{Pushed, Noticed, any_of, none_of_any, FirstFailing, first_failing_of, LooksAt, Clears, FindsBusy, looked_where, SweptWith, each_of}
 use Rattle.hub_core.proofs.SoundLines.{MayPut, message_may, notice_may, LinesAt, by_more, inside_of}
 use Rattle.hub_core.proofs.MailboxStepping.{nothing_joined, step_kept}
 use Rattle.hub_core.proofs.Totals.{filter_both, nothing_there, queues_from, joined_from, prefixes_pass, nothing_more}
 use Rattle.hub_core.proofs.MailboxShown.{view, ShownAt, IsShown, HasRight, Leads, one_step, event_grows, Standing, standing, queue_shown, clear_shown, Runs}
-use Rattle.hub_core.specs.declared.outcome.Outcome.TheVariants as outcome
+use Rattle.hub_core.specs.declared.step.Outcome.TheVariants as outcome
 use Rattle.hub_core.specs.GateMachine as machine
 use Rattle.hub_core.proofs.Gating.{weight_le, gate_machine_laws}
 
@@ -59,7 +59,7 @@ module _ (e n : ℕ) (m : Mailbox OneRight) (is : IsMailbox e n m) where
   held_there k l q ws at left = append_cancel_left (by l q.got) (by l q.held) ws
       (sym (filter-append _ q.got q.held) ∙ (is.each_queue k q at).put l ∙ sym (put_there l k q at) ∙ left ∙ ap (λ us. us ++ ws) (filters _ _ (got_from m) ∙ ap (by l) (got_there_in k q at)))
 
-  -- a queue of which everything that was put was taken out, line by line, holds nothing
+  -- a queue holds nothing once, line by line, everything that was put there was taken out
   pub holds_nothing : (k : ℕ) → k < length m.gates → ((l : ℕ) → in_queue k (by l (got_from m)) ≡ in_queue k (put_by m l)) → HoldsNothing m k
   holds_nothing k within all =
       let many : length m.queues ≡ length m.gates = is.queues in

@@ -2,11 +2,10 @@
 use Rattle.std.proofs.Common.{◌≡◌, List, [], ◌∷◌, ◌++◌, length, refl, sym, ap, subst, arith, append_assoc, append-nil, ℕ, Bool, true, false, cond, eqb, ◌∙◌, inl, inr, None, rules, ◌&&◌, ◌⊎◌, Option, Some, drop}
 use Rattle.hub_core.proofs.Words.{zip, Pair, History, Fits, LegalAfter, Legal, Phase, Out, Turned, Sender, Action, Outcome, Facts, facts, Answers, Same, phase_of_line, CastNow, cast_to, cast_after, roster, changes_nothing, done_with, source_for, answered, is_first}
 use Rattle.hub_core.specs.declared.step.Action.TheVariants as action
-use Rattle.hub_core.specs.declared.outcome.Outcome.TheVariants as outcome
-use Rattle.hub_core.proofs.Nexts.{next, nothing_changes, facts_next}
+use Rattle.hub_core.specs.declared.step.Outcome.TheVariants as outcome
+use Rattle.hub_core.proofs.Nexts.{next, nothing_changes, facts_next, entered_of}
 use Rattle.hub_core.proofs.SoundLines.{on_place}
 use Rattle.hub_core.proofs.Items.{is_out_of}
-use Rattle.hub_core.proofs.Fitting.{entered_of}
 
 -- ==== Legal histories, one pair more.
 

@@ -2,12 +2,11 @@
 use Rattle.std.proofs.Common.{Bool, List, None, Option, Some, [], ap, append-nil, append_assoc, arith, cond, eqb, false, inl, inr, length, ne_eqb, not, refl, rules, subst, sym, true, ℕ, ⊎_elim, ◌&&◌, ◌++◌, ◌+◌, ◌-◌, ◌<◌, ◌||◌, ◌∙◌, ◌∷◌, ◌≡◌, ◌≤◌, ◌⊎◌}
 use Rattle.hub_core.proofs.Words.{Acceptance, Action, AgentId, AllByRecursion, Answers, Client, EndId, EndNow, Envelope, Facts, Inside, IsAllWaiting, IsNext, IsOfEnd, Kind, LineNow, MAX_LINES, Member, Out, Outcome, Phase, Port, Prefix, Rises, Sender, SoundLines, SoundWaiting, Turned, Worker, owner_by, with_agent, name_of, put_there, all_settled, and_parts, append_cancel_left, by, cases_eq, cases_lt, count_in_queue, eq-eqb, eqb-false, eqb-true, false≢true, filter-append, hears_notice, holder, in_queue, is_away_at, is_distinct, is_here, is_inside, is_queue, is_settled, is_some}
 use Rattle.hub_core.proofs.Words.{lines_of, may_enter, named_envelope, named_notice, no_end, no_line, not-true, on_line, opened, option_and_then, or_cases, peer_of, phase_of_line, poster, poster_of, running, someone_at, speaker, up_to}
-use Rattle.hub_core.proofs.Fitting.{Noticed, Pushed, SweptWith, cleared_of, each_of, found_closed_of, found_moved_of, got_of, hopped_of, let_in_of, line_got_of, looked_where, member_made_of, new_ends, none_of_any, noticed_of, pushed_of, queue_made_of, swept_of, went_on_of}
+use Rattle.hub_core.proofs.Nexts.{Noticed, Pushed, SweptWith, cleared_of, each_of, found_closed_of, found_moved_of, got_of, hopped_of, let_in_of, line_got_of, looked_where, member_made_of, new_ends, none_of_any, noticed_of, pushed_of, queue_made_of, swept_of, went_on_of, next}
 use Rattle.hub_core.proofs.Items.{AllByRecursion-append, AllByRecursion-weaker, at_test, eqb_same}
-use Rattle.hub_core.proofs.Nexts.{next}
 use Rattle.hub_core.proofs.Totals.{nothing_there}
 use Rattle.hub_core.proofs.Waits.{from_queue}
-use Rattle.hub_core.specs.declared.outcome.Outcome.TheVariants as outcome
+use Rattle.hub_core.specs.declared.step.Outcome.TheVariants as outcome
 use Rattle.hub_core.specs.declared.step.Action.TheVariants as action
 
 -- what is said of the lines of an end
@@ -312,7 +311,7 @@ inside_of _ h = cc
 
 -- ---- lines
 
--- other lines, of which one is inside only where nothing was discarded
+-- the lines changed: one may be inside only where nothing was discarded
 relined : (n t : ℕ) (closed : Bool) (line after : ℕ → LineNow) (clear : ℕ → Bool) (vs ts ds : List Envelope) → ((l : ℕ) → (after l).phase ≡ Inside → ds ≡ []) → Leavings n t closed line clear vs ts ds → Leavings n t closed after clear vs ts ds
 relined n t closed line after clear vs ts ds nobody h = record { unclear = h.unclear; reached = h.reached; from = h.from; kept = h.kept; nobody = nobody; swept = h.swept }
 
@@ -447,7 +446,7 @@ module _ (f : Facts) (x : ℕ) (vs : List Envelope) (h : WaitingAt f x) (all : I
   pub all_removed : (l : ℕ) → by l (f.taken x ++ (f.discarded x ++ vs)) ≡ by l (f.accepted x)
   all_removed l = ap (by l) (sym (append_assoc (f.taken x) (f.discarded x) vs)) ∙ all.all l
 
--- nobody is inside an end of which every queue is settled
+-- nobody is inside an end whose queues are all settled
 pub nobody_there : (f : Facts) (x l : ℕ) → LinesAt f x → all_settled f x ≡ true → (f.line x l).phase ≡ Inside → ⊥
 nobody_there f x l s settled inside =
     let reached : (f.end x).taker_stand ≤ (f.line x l).stand = s.inside l inside in

@@ -3,10 +3,9 @@ use Rattle.std.proofs.Common.{Bool, Option, Some, ap, arith, cond, eqb, false, r
 use Rattle.hub_core.proofs.Words.{Action, AgentId, Answers, Arrived, EndId, Facts, Gone, InFlight, Kind, Outcome, Place, Sound, SoundPlaces, Swept, With, arrived, closed_after, eqb-true, is_here, is_named, is_queue, is_released, is_some, names, no_end, peer_of, owner, is_holder, is_free, place_after, EndNow, Member, Sender, cast_after, cast_to, ends, false≢true, held_after, is_out, kind_after, lines_of, may_enter, phase_of_line, poster, roster_after, runs_after, hears_notice, Client, Envelope, Inside, IsNext, MAX_ENDS, Out, Phase, Port}
 use Rattle.hub_core.proofs.Words.{Turned, Worker, agents_after, and_parts, ends_after, flights, is_gone, named_envelope, named_notice, naming, opened, total}
 use Rattle.hub_core.specs.declared.step.Action.TheVariants as action
-use Rattle.hub_core.specs.declared.outcome.Outcome.TheVariants as outcome
-use Rattle.hub_core.proofs.Fitting.{adopted_of, closed_of, got_of, handed_of, member_made_of, new_ends, pushed_of, queue_made_of, swept_of, back_of, cast_of, left_of, line_got_of, none_away, see_of, SweptWith, found_closed_of, found_moved_of, let_in_of, new_agent, noticed_of, started_of, went_on_of}
+use Rattle.hub_core.specs.declared.step.Outcome.TheVariants as outcome
+use Rattle.hub_core.proofs.Nexts.{adopted_of, closed_of, got_of, handed_of, member_made_of, new_ends, pushed_of, queue_made_of, swept_of, back_of, cast_of, left_of, line_got_of, none_away, see_of, SweptWith, found_closed_of, found_moved_of, let_in_of, new_agent, noticed_of, started_of, went_on_of, next}
 use Rattle.hub_core.proofs.Speakers.{holder_made, runs_there, swept_flies, taken_flies, travels, Casts, Hears, HoldsLine, Speaks, casts_as, entangled_made, hears_of, holds_as, kind_made, left_other, line_owned, may_as, no_port, not_first, not_here, old_end, old_one, zeroth_out, free_port_out, port_owned, poster_as, queue_is_made, released_out, speaks_of, still_held, SomeCasts, closed_made, heard_of, made_of, named_count, nothing_accepted, nothing_removed, placed_made, running_made, same_sender, swept_total, swept_within, unnamed_count}
-use Rattle.hub_core.proofs.Nexts.{next}
 use Rattle.hub_core.proofs.SoundLines.{line_there, unmade_end, unmade_one}
 use Rattle.hub_core.proofs.Items.{at_test, eqb_same}
 use Rattle.hub_core.proofs.Totals.{bit, count_between, count_more, total_more, total_past}

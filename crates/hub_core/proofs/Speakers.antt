@@ -2,14 +2,14 @@
 use Rattle.std.proofs.Common.{Bool, List, None, Option, Some, [], ap, append-nil, append_assoc, arith, cond, eqb, false, inl, inr, length, ne_eqb, not, refl, rules, subst, sym, true, ℕ, ◌&&◌, ◌++◌, ◌+◌, ◌<◌, ◌||◌, ◌∙◌, ◌∷◌, ◌≡◌, ◌≤◌, ◌⊎◌, ⊎_elim}
 use Rattle.hub_core.proofs.Words.{AgentId, AllByRecursion, CastNow, Client, EndId, EndNow, Envelope, Facts, InFlight, IsAllWaiting, IsNext, IsOfEnd, Kind, LineNow, Member, Out, Place, Port, Prefix, Sender, Sound, SoundPlaces, With, Worker, and_parts, by, eqb-true, false≢true, filter, flights, owner, owner_by, with_agent, is_free, speaker, source_for, hears_notice, holder, is_at, is_first, is_here, is_holder, is_named, is_out, is_queue, is_released, is_some, is_with, lines_of, list_all, maker_of, may_enter, may_leave_agent, names, naming, no_end, on_line, opened, option_and_then}
 use Rattle.hub_core.proofs.Words.{or_right, peer_of, phase_of_line, place, poster, poster_of, running, total, cases_lt}
-use Rattle.hub_core.proofs.Fitting.{SweptWith}
+use Rattle.hub_core.proofs.Nexts.{SweptWith}
 use Rattle.hub_core.proofs.Items.{eqb_same, at_test}
 use Rattle.hub_core.proofs.SoundLines.{LinesAt, line_there, WaitingAt, all_removed, got_prefix, nothing_more}
 use Rattle.hub_core.proofs.Totals.{bit, count, count_append, count_lines, count_more, total_less, total_more}
 
 -- ---- ends that were not made
 
--- an end of which something is known was made
+-- an end that has any fact was made
 pub made_of : (f : Facts) (x : ℕ) → ((y : ℕ) → f.ends ≤ y → f.end y ≡ no_end) → (f.end x ≡ no_end → ⊥) → x < f.ends
 made_of f x none known = ⊎_elim (λ below. below) (λ past. absurd (known (none x past))) (cases_lt x f.ends)
 

@@ -1,10 +1,11 @@
 -- A step of the core from one value to another, and the clauses of `Core::step` that follow.
 use Rattle.std.proofs.Common.{◌<◌, length, sym, ap, subst, ◌∙◌, ◌≡◌, Some, Result, Ok, Err, refl, IfOk, MatchResult, ℕ, Bool, true, List, [], ◌∷◌, ◌++◌, None, inl, inr}
-use Rattle.hub_core.proofs.Words.{slice_get, Core, Member, facts, ShowsFacts, StillShows, SameContent, AgentId, Client, Worker, CoreState, core_after, queue_core, Outcome, OnErr, false≢true, EndId, member_made, is_seated, part_answer, unwrap_or, has_end, MemberLeaves, PartLeaves, seen, Step, Action, Facts, Answers, Fits, History, InOrder, takes_memory, Shows, ShowsRoster, FitsAndShows, changes_nothing, member_answer}
+use Rattle.hub_core.proofs.Words.{slice_get, Core, Member, facts, ShowsFacts, StillShows, SameContent, AgentId, Client, Worker, CoreState, core_after, queue_core, Outcome, OnErr, false≢true, EndId, member_made, is_seated, unwrap_or, has_end, MemberLeaves, PartLeaves, seen, Step, Action, Facts, Answers, Fits, History, InOrder, takes_memory, Shows, ShowsRoster, FitsAndShows, changes_nothing}
+use Rattle.hub_core.specs.Legal.{member_answer, part_answer}
 use Rattle.hub_core.proofs.Sounds.{sound_legal}
 use Rattle.hub_core.proofs.Speakers.{kind_made}
 use Rattle.hub_core.specs.declared.step.Action.TheVariants as action
-use Rattle.hub_core.specs.declared.outcome.Outcome.TheVariants as outcome
+use Rattle.hub_core.specs.declared.step.Outcome.TheVariants as outcome
 use Rattle.hub_core.proofs.Seeing.{Sees, SoundlyShows, seen_is}
 use Rattle.hub_core.proofs.Casts.{part_answered, part_shown, same_members, leaves_roster, roster_member, roster_part, shows_still, stays}
 use Rattle.hub_core.proofs.EndSteps.{member_shown}

@@ -3,7 +3,7 @@
 use Rattle.std.specs.Prelude.{if◌then◌else◌, ◌==◌, ◌∷◌}
 use Rattle.hub_core.specs.Words.{Acceptance, Action, EndId, Envelope, List, Outcome, Sender, [], codes, false, flat_map, true, ℕ}
 use Rattle.hub_core.specs.declared.step.Action.TheVariants as action
-use Rattle.hub_core.specs.declared.outcome.Outcome.TheVariants as outcome
+use Rattle.hub_core.specs.declared.step.Outcome.TheVariants as outcome
 use Rattle.hub_core.specs.History.{History}
 
 -- what was accepted on a line, under its name

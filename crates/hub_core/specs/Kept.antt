@@ -5,13 +5,13 @@ use Rattle.hub_core.specs.Words.{With, Worker, drop, flat_map, fold, is_some, li
 use Rattle.hub_core.specs.CoreState.{CoreState}
 use Rattle.hub_core.specs.Notions.{Facts, facts, no_roster, cast_to, cast_after, lines_of, named_envelope, named_notice}
 use Rattle.hub_core.specs.Shows.{agent_now, end_now, line_now, kept_lines}
-use Rattle.hub_core.specs.declared.outcome.Outcome.TheVariants as outcome
+use Rattle.hub_core.specs.declared.step.Outcome.TheVariants as outcome
 use Rattle.hub_core.specs.declared.posting.Posting.{Posting}
 use Rattle.hub_core.specs.Posting.{holder, is_inside, is_out, owner}
 use Rattle.hub_core.specs.declared.step.Action.TheVariants as action
 use Rattle.hub_core.specs.Taking.{is_released}
 
--- ==== What the core keeps, seen as facts, so that what is asked of a history is asked of the core as well.
+-- ==== What the core keeps, seen as facts: what is defined over the facts of a history can be said of a core too.
 
 -- What the core doesn't keep is as at first: which queues are clear, what was accepted, taken and discarded, and the members
 -- of the roster, in order, with their groups.

@@ -4,7 +4,7 @@ use Rattle.hub_core.specs.Words.{BTreeSet, Bool, EndId, Group, List, None, Optio
 use Rattle.hub_core.specs.declared.roster.Members.{Members}
 use Rattle.hub_core.specs.declared.roster.Roster.{Roster}
 use Rattle.hub_core.specs.Notions.{RosterNow, is_same_group, is_of_group, group_named}
-use Rattle.hub_core.specs.declared.outcome.Outcome.TheVariants as outcome
+use Rattle.hub_core.specs.declared.step.Outcome.TheVariants as outcome
 
 -- by origin, then by name
 abbrev pub group_cmp : Group → Group → Ordering

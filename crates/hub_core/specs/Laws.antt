@@ -3,11 +3,10 @@
 use Rattle.std.specs.Prelude.{◌&&◌, ◌++◌, ◌<◌, ◌==◌, ◌↔◌, ◌∷◌, ◌≡◌, ◌≤◌, ◌⊎◌}
 use Rattle.hub_core.specs.Words.{Action, AgentId, AllByRecursion, Bool, EndId, Envelope, List, None, Outcome, Sender, Some, Step, Turned, [], false, filter, length, list_any, not, true, ℕ, is_some}
 use Rattle.hub_core.specs.Notions.{History, Pair, accepted, discarded, taken, closed, enabled, place, Prefix, by, in_queue, numbers, up_to, newest, phase, stand, taker_stand, cast_after, roster, source_for, Facts, facts, ends}
-use Rattle.hub_core.specs.Legal.{Fits, Legal, Same}
+use Rattle.hub_core.specs.Legal.{Fits, Legal, Same, changes_nothing}
 use Rattle.hub_core.specs.Posting.{is_out, may_enter, phase_of_line, poster}
 use Rattle.hub_core.specs.Sound.{flights, naming, total}
-use Rattle.hub_core.specs.Unchanged.{changes_nothing}
-use Rattle.hub_core.specs.declared.outcome.Outcome.TheVariants as outcome
+use Rattle.hub_core.specs.declared.step.Outcome.TheVariants as outcome
 use Rattle.hub_core.specs.declared.step.Action.TheVariants as action
 
 -- a step with memory refused in it or not, and what it was answered
@@ -31,7 +30,7 @@ posts s _ _ = false
 abbrev pub IsTurned : Outcome → Type 0
 IsTurned o = (o ≡ outcome.Closed) ⊎ (o ≡ outcome.Moved)
 
--- an open, enabled end of which everything accepted was taken
+-- an open, enabled end, where everything that was accepted was taken
 pub record IsDrainedAt (h : History) (e : ℕ) : Type 0 where
   pub is_open : closed h e ≡ false
   pub is_enabled : enabled h e ≡ true

@@ -10,15 +10,12 @@ pub mod Facts
 pub mod Notions
 pub mod CoreState
 pub mod Kept
-pub mod Making
 pub mod Posting
 pub mod Taking
-pub mod Casting
 pub mod Legal
 pub mod Sound
 pub mod Shows
 pub mod KeptRoster
-pub mod Unchanged
 pub mod Laws
 pub mod QueueMachine
 pub mod GateMachine

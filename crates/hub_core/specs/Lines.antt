@@ -4,7 +4,7 @@
 use Rattle.std.specs.Prelude.{if◌then◌else◌, ◌&&◌, ◌+◌, ◌==◌}
 use Rattle.hub_core.specs.Words.{Action, AgentId, Bool, Inside, None, Option, Out, Outcome, Phase, Sender, Some, Turned, false, fold, true, ℕ}
 use Rattle.hub_core.specs.declared.step.Action.TheVariants as action
-use Rattle.hub_core.specs.declared.outcome.Outcome.TheVariants as outcome
+use Rattle.hub_core.specs.declared.step.Outcome.TheVariants as outcome
 use Rattle.hub_core.specs.History.{History}
 
 -- what was, or the new where the step is on this line of this end

@@ -3,7 +3,7 @@
 use Rattle.std.specs.Prelude.{if◌then◌else◌, ◌+◌, ◌==◌}
 use Rattle.hub_core.specs.Words.{Action, AgentId, Bool, Client, Kind, MAX_LINES, Member, None, Option, Outcome, Port, Sender, Some, Worker, false, fold, option_map, true, ℕ}
 use Rattle.hub_core.specs.declared.step.Action.TheVariants as action
-use Rattle.hub_core.specs.declared.outcome.Outcome.TheVariants as outcome
+use Rattle.hub_core.specs.declared.step.Outcome.TheVariants as outcome
 use Rattle.hub_core.specs.History.{History}
 
 abbrev pub agents_after : ℕ → Outcome → Action → ℕ

@@ -7,7 +7,7 @@ use Rattle.hub_core.specs.GateMachine.{Gate, IsAt, enter, leave, turn_back, enab
 use Rattle.hub_core.specs.QueueMachine.{Queue}
 use Rattle.hub_core.specs.Mailbox.{Mailbox, GateAt, QueueAt, StandsAt, IsNewest, put_by, got_from, IsMailbox, new_mailbox, MailboxEvent, at_gate, push, pop, MailboxStep, hop, advance, add, after_event, after_events}
 use Rattle.hub_core.specs.declared.step.Action.TheVariants as action
-use Rattle.hub_core.specs.declared.outcome.Outcome.TheVariants as outcome
+use Rattle.hub_core.specs.declared.step.Outcome.TheVariants as outcome
 use Rattle.hub_core.specs.Legal.{Fits, Legal}
 use Rattle.hub_core.specs.Taking.{looked, unsettled}
 

@@ -3,7 +3,7 @@
 use Rattle.std.specs.Prelude.{if◌then◌else◌, ◌==◌, ◌||◌}
 use Rattle.hub_core.specs.Words.{Action, Arrived, Bool, EndId, Envelope, Gone, InFlight, List, None, Option, Outcome, Place, Some, Swept, With, fold, list_any, ℕ, false, true}
 use Rattle.hub_core.specs.declared.step.Action.TheVariants as action
-use Rattle.hub_core.specs.declared.outcome.Outcome.TheVariants as outcome
+use Rattle.hub_core.specs.declared.step.Outcome.TheVariants as outcome
 use Rattle.hub_core.specs.History.{History}
 
 -- whether a list of ports names the end

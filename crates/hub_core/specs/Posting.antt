@@ -3,7 +3,7 @@
 use Rattle.std.specs.Prelude.{if◌then◌else◌, ◌&&◌, ◌==◌, ◌||◌, ◌∷◌}
 use Rattle.hub_core.specs.Words.{Acceptance, AgentId, Arrived, Bad, Bool, EndId, Good, HoldsTarget, Inside, Kind, List, Listing, MAX_PORTS, Client, Member, None, Option, Out, Outcome, Phase, Place, Port, Sender, Some, Swept, With, Worker}
 use Rattle.hub_core.specs.Words.{[], false, is_some, length, list_all, nat_lt, not, option_and_then, option_map, true, unwrap_or, ℕ}
-use Rattle.hub_core.specs.declared.outcome.Outcome.TheVariants as outcome
+use Rattle.hub_core.specs.declared.step.Outcome.TheVariants as outcome
 use Rattle.hub_core.specs.Notions.{AgentNow, EndNow, Facts, LineNow, names, peer_of, maker_of, CastNow, has_body, source_for, count_in_queue}
 
 abbrev pub is_out : Phase → Bool

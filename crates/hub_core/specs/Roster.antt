@@ -3,7 +3,7 @@
 use Rattle.std.specs.Prelude.{if◌then◌else◌, ◌&&◌, ◌++◌, ◌==◌, ◌∷◌}
 use Rattle.hub_core.specs.Words.{Action, Bool, EndId, Group, List, None, Option, Outcome, Some, [], bytes_eq, drop, false, fold, list_any, option_map, ℕ}
 use Rattle.hub_core.specs.declared.step.Action.TheVariants as action
-use Rattle.hub_core.specs.declared.outcome.Outcome.TheVariants as outcome
+use Rattle.hub_core.specs.declared.step.Outcome.TheVariants as outcome
 use Rattle.hub_core.specs.History.{History}
 
 -- a cast with destinations left, in order

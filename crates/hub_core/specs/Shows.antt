@@ -3,11 +3,10 @@ use Rattle.std.specs.Prelude.{if◌then◌else◌, ◌&&◌, ◌++◌, ◌+◌, 
 use Rattle.hub_core.specs.Words.{Agent, AgentId, AllByRecursion, Bool, Client, End, EndId, Envelope, Group, Inside, Kind, Line, List, Member, None, Option, Outcome, Some, Step, Worker, [], false, length, nat_lt, slice_get, slice_index_or, ℕ, IfSome, option_map, unwrap_or}
 use Rattle.hub_core.specs.declared.machine.Core.{Core}
 use Rattle.hub_core.specs.declared.roster.Roster.{Roster}
-use Rattle.hub_core.specs.KeptRoster.{group_of, numbers_of, numbers_with}
+use Rattle.hub_core.specs.KeptRoster.{SameRoster, group_of, numbers_of, numbers_with}
 use Rattle.hub_core.specs.Notions.{History, AgentNow, EndNow, LineNow, Facts, facts, in_queue, count_in_queue, lines_of}
-use Rattle.hub_core.specs.Legal.{Fits, Legal}
+use Rattle.hub_core.specs.Legal.{Fits, Legal, is_away_of, is_queue_of}
 use Rattle.hub_core.specs.Sound.{no_end, no_line, total}
-use Rattle.hub_core.specs.Making.{is_away_of, is_queue_of}
 use Rattle.hub_core.specs.Posting.{is_with}
 
 -- an agent, an end and a line now, as the core keeps them, or as there is none
@@ -113,3 +112,7 @@ FitsAndShows old new step o = (h : History) → Shows old h → Fits h (step, o)
 -- the new core shows each history that the old core shows
 abbrev pub StillShows : Core → Core → Type 0
 StillShows old new = (h : History) → Shows old h → Shows new h
+
+-- the core's agents, ends and roster are as before
+abbrev pub SameContent : Core → Core → Type 0
+SameContent old new = (new.agents ≡ old.agents) × (new.ends ≡ old.ends) × SameRoster (length old.ends) old.roster new.roster

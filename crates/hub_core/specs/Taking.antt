@@ -4,7 +4,7 @@ use Rattle.std.specs.Prelude.{if◌then◌else◌, ◌&&◌, ◌++◌, ◌+◌, 
 use Rattle.hub_core.specs.Words.{AgentId, Arrived, Bool, EndId, Envelope, Kind, List, MAX_MOVES, MatchBool, None, Option, Outcome, Place, Port, Sender, Some, [], false, is_some, nat_le, nat_lt, not, suc, true, zero, ℕ}
 use Rattle.hub_core.specs.Notions.{is_queue, lines_of, Facts, LineNow, Prefix, Rises, by, in_queue}
 use Rattle.hub_core.specs.Posting.{holder, is_here, is_out, may_enter, phase_of_line}
-use Rattle.hub_core.specs.declared.outcome.Outcome.TheVariants as outcome
+use Rattle.hub_core.specs.declared.step.Outcome.TheVariants as outcome
 
 -- ---- Look and Sweep
 
@@ -62,7 +62,7 @@ pub record IsAllWaiting (f : Facts) (x : ℕ) (vs : List Envelope) : Type 0 wher
   pub rises : Rises vs
   pub all : (line : ℕ) → by line ((f.taken x ++ f.discarded x) ++ vs) ≡ by line (f.accepted x)
 
--- what a closed end answers of which every queue is settled
+-- what a Sweep is answered at a closed end whose queues are all settled
 abbrev pub Sweeps : Facts → ℕ → Outcome → Type 0
 Sweeps f x (outcome.Discarded vs) = IsAllWaiting f x vs
 Sweeps f x _ = ⊥
@@ -93,7 +93,7 @@ pub record IsDrained (f : Facts) (e : EndId) : Type 0 where
   pub newest : (f.end e.0).taker_stand ≡ (f.end e.0).newest
   pub all : (line : ℕ) → by line (f.taken e.0) ≡ by line (f.accepted e.0)
 
--- the taker stands at a retired queue, of which everything that was accepted was taken
+-- the taker stands at a retired queue, and everything that was accepted was taken
 pub record IsLeft (f : Facts) (e : EndId) : Type 0 where
   pub retired : (f.end e.0).taker_stand < (f.end e.0).newest
   pub all : (line : ℕ) → in_queue (f.end e.0).taker_stand (by line (f.taken e.0)) ≡ in_queue (f.end e.0).taker_stand (by line (f.accepted e.0))

@@ -25,10 +25,10 @@ pub use Rattle.hub_core.specs.declared.kind.Kind.TheVariants.{Client, Member, Po
 pub use Rattle.hub_core.specs.declared.line.Line.{Line}
 pub use Rattle.hub_core.specs.declared.line.Phase.{Phase}
 pub use Rattle.hub_core.specs.declared.line.Phase.TheVariants.{Inside, Out, Turned}
-pub use Rattle.hub_core.specs.declared.outcome.Listing.{Listing}
-pub use Rattle.hub_core.specs.declared.outcome.Listing.TheVariants.{Bad, Good, HoldsTarget}
-pub use Rattle.hub_core.specs.declared.outcome.Acceptance.{Acceptance}
-pub use Rattle.hub_core.specs.declared.outcome.Outcome.{Outcome}
+pub use Rattle.hub_core.specs.declared.step.Listing.{Listing}
+pub use Rattle.hub_core.specs.declared.step.Listing.TheVariants.{Bad, Good, HoldsTarget}
+pub use Rattle.hub_core.specs.declared.step.Acceptance.{Acceptance}
+pub use Rattle.hub_core.specs.declared.step.Outcome.{Outcome}
 pub use Rattle.hub_core.specs.declared.step.Sender.{Sender}
 pub use Rattle.hub_core.specs.declared.step.Action.{Action}
 pub use Rattle.hub_core.specs.declared.step.Step.{Step}

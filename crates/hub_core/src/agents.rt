@@ -6,9 +6,8 @@ ghost use Rattle.std.specs.Prelude.{◌≡◌, ◌++◌, ◌∷◌, ◌==◌, []
 ghost use Rattle.std.specs.Prelude.{if◌then◌else◌, IfOk, MatchResult, OnOk};
 ghost use Rattle.hub_core.specs.Kept.{core_after, queue_core, one_more, set_at, gone};
 ghost use Rattle.hub_core.specs.Kept.{first_free, change_owner, counted, seen};
-ghost use Rattle.hub_core.specs.Making.{agent_answer, back_answer, channel_answer, ends_at};
-ghost use Rattle.hub_core.specs.Making.{line_answer, order_answer, queue_answer};
-ghost use Rattle.hub_core.specs.Making.{see_answer};
+ghost use Rattle.hub_core.specs.Legal.{agent_answer, back_answer, channel_answer, ends_at};
+ghost use Rattle.hub_core.specs.Legal.{line_answer, order_answer, queue_answer, see_answer};
 ghost use Rattle.hub_core.specs.Posting.{owner};
 ghost use Rattle.hub_core.specs.Shows.{count_of, kept_away, kept_lines};
 ghost use Rattle.hub_core.specs.declared.step.Action.TheVariants as action;
@@ -18,8 +17,7 @@ use crate::end::{End, Place};
 use crate::kind::Kind;
 use crate::line::{Line, Phase};
 use crate::machine::Core;
-use crate::outcome::Outcome;
-use crate::step::Sender;
+use crate::step::{Outcome, Sender};
 use hub_envelope::{AgentId, EndId, Items, MAX_AGENTS, MAX_ENDS, OutOfMemory, Text};
 
 impl Core {

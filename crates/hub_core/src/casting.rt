@@ -1,21 +1,21 @@
 //! Broadcast channels: Member, Cast and Part.
 
 ghost use Rattle.std.specs.Prelude.{◌≡◌, unwrap_or, List, ℕ, IfSome, MatchResult};
-ghost use Rattle.hub_core.specs.Casting.{member_answer, cast_answer, part_answer};
+ghost use Rattle.hub_core.specs.Legal.{member_answer, cast_answer, part_answer};
 ghost use Rattle.hub_core.specs.Kept.{member_made, seen, core_after};
 ghost use Rattle.hub_core.specs.Made.{maker_of};
 ghost use Rattle.hub_core.specs.KeptRoster.{is_seated, kept_destinations};
 ghost use Rattle.hub_core.specs.KeptRoster.{MemberLeaves, PartLeaves};
-ghost use Rattle.hub_core.specs.declared.outcome.Outcome.TheVariants as outcome;
+ghost use Rattle.hub_core.specs.declared.step.Outcome.TheVariants as outcome;
 ghost use Rattle.hub_core.specs.declared.step.Action.TheVariants as action;
 ghost use Rattle.hub_envelope.specs.declared.ids.EndId.{EndId as EndIdValue};
-ghost use Rattle.hub_core.specs.Unchanged.{SameContent};
+ghost use Rattle.hub_core.specs.Shows.{SameContent};
 
 use crate::end::End;
 use crate::kind::Kind;
 use crate::machine::Core;
-use crate::outcome::Outcome;
 use crate::roster::all_left;
+use crate::step::Outcome;
 use hub_envelope::{AgentId, Body, EndId, Items, MAX_ENDS, OutOfMemory, Text};
 
 impl Core {

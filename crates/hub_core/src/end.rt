@@ -9,8 +9,8 @@ ghost use Rattle.hub_core.specs.Kept.{adopted_end, has_queue, posting_line, put_
 
 use crate::kind::Kind;
 use crate::line::{Line, Lines, Phase};
-use crate::outcome::Outcome;
 use crate::queues::Queues;
+use crate::step::Outcome;
 use hub_envelope::{AgentId, Envelope, LineId, MAX_MOVES, MAX_PUT, OutOfMemory};
 use std::alloc::Global;
 

@@ -19,8 +19,7 @@ use crate::end::Place;
 use crate::kind::Kind;
 use crate::line::Phase;
 use crate::machine::Core;
-use crate::outcome::Outcome;
-use crate::step::Sender;
+use crate::step::{Outcome, Sender};
 use hub_envelope::{AgentId, EndId, Envelope, Items, LineId, MAX_MOVES, OutOfMemory};
 
 impl Core {

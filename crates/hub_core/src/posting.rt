@@ -17,8 +17,7 @@ use crate::end::Place;
 use crate::kind::Kind;
 use crate::line::{Line, Phase};
 use crate::machine::Core;
-use crate::outcome::{Acceptance, Listing, Outcome};
-use crate::step::Sender;
+use crate::step::{Acceptance, Listing, Outcome, Sender};
 use hub_envelope::{AgentId, Body, EndId, Envelope, Items, LineId, MAX_PORTS, OutOfMemory, Ports};
 
 /// The line on which a message may be pushed, and the agent that posts it.
@@ -345,7 +344,7 @@ impl Core {
         end.place.is_with(agent) && self.is_free(end.kind) && !is_port(port, source)
     }
 
-    /// Whether an end of this kind is a port whose own poster is out, with no notice of it.
+    /// Whether an end of this kind is a port whose own poster is out and has put no notice.
     fn is_free(&self, kind: Kind) -> bool
         ensures { let peer = peer_of (Some kind) in
             result ≡ is_free (seen self.now).line peer }

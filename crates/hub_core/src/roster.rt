@@ -118,7 +118,7 @@ impl Members {
         Ok(Some(Group { origin, name }))
     }
 
-    /// The end joins a group, of which it has the greatest number.
+    /// The end joins a group, in which it has the greatest number.
     pub(crate) fn join(
         &mut self,
         alloc: Global,

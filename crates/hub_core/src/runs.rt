@@ -7,8 +7,7 @@ ghost use Rattle.hub_core.specs.Laws.{Headline, Fates, InOrder};
 ghost use Rattle.hub_core.specs.Shows.{FitsAndShows, Shows};
 
 use crate::machine::Core;
-use crate::outcome::Outcome;
-use crate::step::{Action, Step};
+use crate::step::{Action, Outcome, Step};
 use hub_envelope::OutOfMemory;
 use std::alloc::Global;
 

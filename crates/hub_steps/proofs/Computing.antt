@@ -9,11 +9,11 @@ use Rattle.hub_core.specs.declared.step.Sender.{Sender}
 use Rattle.hub_core.specs.declared.machine.Core.{Core}
 use Rattle.hub_core.specs.declared.step.Action.{Action}
 use Rattle.hub_core.specs.declared.step.Action.TheVariants as action
-use Rattle.hub_core.specs.declared.outcome.Outcome.{Outcome}
-use Rattle.hub_core.specs.declared.outcome.Outcome.TheVariants as outcome
+use Rattle.hub_core.specs.declared.step.Outcome.{Outcome}
+use Rattle.hub_core.specs.declared.step.Outcome.TheVariants as outcome
 use Rattle.hub_core.specs.History.{History}
-use Rattle.hub_core.specs.declared.outcome.Listing.{Listing}
-use Rattle.hub_core.specs.declared.outcome.Listing.TheVariants.{HoldsTarget}
+use Rattle.hub_core.specs.declared.step.Listing.{Listing}
+use Rattle.hub_core.specs.declared.step.Listing.TheVariants.{HoldsTarget}
 use Rattle.hub_core.specs.Facts.{Facts, facts}
 use Rattle.hub_core.specs.Posting.{may_post, listing}
 use Rattle.hub_core.specs.Legal.{LegalAfter}
@@ -26,7 +26,7 @@ use Rattle.hub_steps.specs.declared.step_line.StepLine.{StepLine}
 use Rattle.hub_steps.specs.Computation.{Computation, MayGive, pair, pure, ask, ask_then, step, step_then, ◌>>=◌}
 use Rattle.hub_steps.specs.Performed.{ComputesAt, PerformsAt}
 use Rattle.hub_steps.specs.Lives.{AllLives}
-use Rattle.hub_steps.specs.Unfolding.{sender_of, over_line, on_line_of, enter, go_on, send_inside, send, post_listing, post_count, post_may, post, start_made, worker, start_worker, start_adopted, adopt, notice_line, tell_inside, tell, close_shown, close_on, close, close_each, close_ports, close_swept, sweep, core_steps, member, cast_inside, line_zero, cast_over, cast_each, cast_all, cast}
+use Rattle.hub_steps.specs.Unfolding.{sender_of, over_line, on_line_of, enter, go_on, send_inside, send, post_listing, post_count, post_may, post, start_made, then_start, start_worker, start_adopted, adopt, notice_line, tell_inside, tell, close_shown, close_on, close, close_each, close_ports, close_swept, sweep, core_steps, cast_inside, line_zero, cast_over, cast_each, cast_all, cast}
 use Rattle.hub_steps.specs.declared.shown.CastPost.{CastPost}
 
 -- ---- computations in general
@@ -247,14 +247,10 @@ swept_nothing old new refused e o other a = chained old new new (step refused (a
 
 -- ---- queues that a step line starts
 
-pub made_and_started : (old first new : Core) (refused : Bool) (a : AgentId) (e : EndId) (o : Outcome) → ComputesAt old first (step refused (action.Worker a)) (outcome.End e) → ComputesAt first new (step refused (action.Start e)) o → ComputesAt old new (worker refused a) (Answer (outcome.End e))
+pub made_and_started : (old first new : Core) (refused : Bool) (a : Action) (e : EndId) (o : Outcome) → ComputesAt old first (step refused a) (outcome.End e) → ComputesAt first new (step refused (action.Start e)) o → ComputesAt old new (then_start refused a) (Answer (outcome.End e))
 made_and_started old first new refused a e o made did =
-    chained old first new (step refused (action.Worker a)) (start_made refused) (outcome.End e) (Answer (outcome.End e)) made
+    chained old first new (step refused a) (start_made refused) (outcome.End e) (Answer (outcome.End e)) made
     (shown_as first new (step refused (action.Start e)) (λ started. Answer (outcome.End e)) o did)
-
-makes_nothing : (core : Core) (refused : Bool) (o : Outcome) → ((e : EndId) → o ≡ outcome.End e → ⊥) → ComputesAt core core (start_made refused o) (Answer o)
-makes_nothing core refused (outcome.End e) other = absurd (other e refl)
-makes_nothing core refused o other = given core (Answer o)
 
 pub adopted_and_started : (old first new : Core) (refused : Bool) (e : EndId) (a : AgentId) (k : ℕ) → ComputesAt old first (step refused (action.Adopt e a)) (outcome.Adopted k) → ComputesAt first new (start_worker refused e) tt → ComputesAt old new (adopt refused e a) (Answer (outcome.Adopted k))
 adopted_and_started old first new refused e a k adopted did =
@@ -262,14 +258,6 @@ adopted_and_started old first new refused e a k adopted did =
     (shown_as first new (start_worker refused e) (λ started. Answer (outcome.Adopted k)) tt did)
 
 -- ---- casts
-
-pub member_started : (old first new : Core) (refused : Bool) (a : AgentId) (name : List ℕ) (e : EndId) (o : Outcome) → ComputesAt old first (step refused (action.Member a name)) (outcome.End e) → ComputesAt first new (step refused (action.Start e)) o → ComputesAt old new (member refused a name) (Answer (outcome.End e))
-member_started old first new refused a name e o made did =
-    chained old first new (step refused (action.Member a name)) (start_made refused) (outcome.End e) (Answer (outcome.End e)) made
-    (shown_as first new (step refused (action.Start e)) (λ started. Answer (outcome.End e)) o did)
-
-pub no_member : (old new : Core) (refused : Bool) (a : AgentId) (name : List ℕ) (o : Outcome) → ((e : EndId) → o ≡ outcome.End e → ⊥) → ComputesAt old new (step refused (action.Member a name)) o → ComputesAt old new (member refused a name) (Answer o)
-no_member old new refused a name o other did = chained old new new (step refused (action.Member a name)) (start_made refused) o (Answer o) did (makes_nothing new refused o other)
 
 pub pushes_nothing : (core : Core) (refused : Bool) (body : List ℕ) (s : Sender) (o : Outcome) → (o ≡ outcome.In → ⊥) → ComputesAt core core (cast_inside refused body s o) o
 pushes_nothing core refused body s outcome.In other = absurd (other refl)

@@ -8,8 +8,8 @@ use Rattle.hub_core.proofs.Headlines.{one_answer}
 use Rattle.hub_steps.specs.declared.step_line.StepLine.{StepLine}
 use Rattle.hub_steps.specs.ShownText.{shown_line}
 use Rattle.hub_steps.specs.Computation.{Computation, MayGive, pair, pure, ask_then, step_then}
-use Rattle.hub_steps.specs.Lives.{AllLives, lives_after}
-use Rattle.hub_steps.specs.Unfolding.{core_steps}
+use Rattle.hub_steps.specs.Lives.{AllLives}
+use Rattle.hub_steps.specs.Unfolding.{lives_after, core_steps}
 use Rattle.hub_steps.specs.StepText.{Runs, OneText}
 
 -- ---- two runs of one computation

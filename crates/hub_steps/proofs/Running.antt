@@ -12,7 +12,8 @@ use Rattle.hub_steps.specs.declared.step_line.StepLine.{StepLine}
 use Rattle.hub_engine.specs.Beginning.{AppendsBeginning}
 use Rattle.hub_steps.specs.declared.shown.Shown.{Shown}
 use Rattle.hub_steps.specs.ShownText.{shown_line}
-use Rattle.hub_steps.specs.Lives.{AllLives, lives_after}
+use Rattle.hub_steps.specs.Lives.{AllLives}
+use Rattle.hub_steps.specs.Unfolding.{lives_after}
 use Rattle.hub_steps.specs.Performed.{Performs, PerformsAt}
 use Rattle.hub_steps.specs.StepText.{Runs, IsStepText}
 use Rattle.hub_steps.specs.UnderWay.{AreRun, AreLinesTold}

@@ -8,7 +8,8 @@ use Rattle.hub_steps.specs.declared.session.Reply.TheVariants as reply
 use Rattle.hub_steps.specs.declared.session.Session.{Session}
 use Rattle.hub_steps.specs.declared.shown.Shown.{Shown}
 use Rattle.hub_steps.specs.declared.step_line.StepLine.{StepLine}
-use Rattle.hub_steps.specs.Lives.{AllLives, lives_after}
+use Rattle.hub_steps.specs.Lives.{AllLives}
+use Rattle.hub_steps.specs.Unfolding.{lives_after}
 use Rattle.hub_steps.specs.Output.{IsStepsOutput}
 use Rattle.hub_steps.specs.Performed.{PerformsAt}
 use Rattle.hub_steps.specs.Session.{AreTurns, HasRun, Makes, SaidIsTheText, Turn, all_said, texts_run, told, was_run}

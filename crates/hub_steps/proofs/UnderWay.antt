@@ -9,7 +9,8 @@ use Rattle.hub_engine.specs.Engine.{Writes}
 use Rattle.hub_engine.proofs.Bytes.{appends_nothing}
 use Rattle.hub_steps.specs.declared.shown.Shown.{Shown}
 use Rattle.hub_steps.specs.declared.step_line.StepLine.{StepLine}
-use Rattle.hub_steps.specs.Lives.{AllLives, lives_after}
+use Rattle.hub_steps.specs.Lives.{AllLives}
+use Rattle.hub_steps.specs.Unfolding.{lives_after}
 use Rattle.hub_steps.specs.Output.{IsCutShort, IsRunOutput}
 use Rattle.hub_steps.specs.Performed.{PerformsAt}
 use Rattle.hub_steps.specs.ShownText.{shown_line}

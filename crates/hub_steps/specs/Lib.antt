@@ -11,6 +11,5 @@ pub mod Performed
 pub mod StepText
 pub mod UnderWay
 pub mod Output
-pub mod RarerStep
 pub mod ReadMemory
 pub mod Session

@@ -1,16 +1,14 @@
 -- The lives of worker agents (W3C Service Workers, "Service Worker"). An agent that makes a worker's queue has one life
 -- from then on, for good.
-use Rattle.std.specs.Prelude.{ℕ, true, false, List, [], ◌∷◌, ◌++◌, Option, Some, None, Result, Ok, Err, option_map, slice_get, slice_set, if◌then◌else◌}
+use Rattle.std.specs.Prelude.{ℕ, true, false, List, Option, Some, None, Result, Ok, Err, option_map, slice_get, slice_set, if◌then◌else◌}
 use Rattle.hub_life.specs.declared.life.Event.{Event}
 use Rattle.hub_life.specs.declared.life.Event.TheVariants.{Terminate}
 use Rattle.hub_life.specs.declared.life.LifeError.{LifeError}
 use Rattle.hub_life.specs.Lifecycle.{Progress, start, answer}
 use Rattle.hub_life.specs.Course.{after}
-use Rattle.hub_core.specs.declared.outcome.Outcome.TheVariants as outcome
+use Rattle.hub_core.specs.declared.step.Outcome.TheVariants as outcome
 use Rattle.hub_steps.specs.declared.shown.Shown.{Shown}
 use Rattle.hub_steps.specs.declared.shown.Shown.TheVariants.{Answer, State, Refused}
-use Rattle.hub_steps.specs.declared.step_line.Command.{Command}
-use Rattle.hub_steps.specs.declared.step_line.Command.TheVariants as command
 use Rattle.hub_steps.specs.declared.lives.WorkerLife.{WorkerLife}
 
 -- of each agent, by its number, the life that it has
@@ -48,16 +46,3 @@ abbrev pub event_shown : Event → Option (Option WorkerLife) → Shown
 event_shown event None = Answer outcome.NotNow
 event_shown event (Some None) = Answer outcome.NotNow
 event_shown event (Some (Some x)) = answer_shown (answer x.life event)
-
--- the lives after a new agent was asked for, and this shown
-abbrev pub agent_lives : Shown → AllLives → AllLives
-agent_lives (Answer (outcome.Agent a)) lives = lives ++ None ∷ []
-agent_lives shown lives = lives
-
--- the lives after a command that showed this
-abbrev pub lives_after : Command → Shown → AllLives → AllLives
-lives_after (command.Agent url) shown lives = agent_lives shown lives
-lives_after (command.Worker a) (Answer (outcome.End e)) lives = change_life begun a.0 lives
-lives_after (command.See a) (Answer (outcome.Ending es)) lives = change_life ended a.0 lives
-lives_after (command.Event a event) shown lives = change_life (happened event) a.0 lives
-lives_after c shown lives = lives

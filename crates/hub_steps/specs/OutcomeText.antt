@@ -5,8 +5,8 @@ use Rattle.std.specs.Fmt.{decimal}
 use Rattle.hub_envelope.specs.declared.ids.EndId.{EndId}
 use Rattle.hub_envelope.specs.declared.envelope.Envelope.{Envelope}
 use Rattle.hub_text.specs.EndList.{ends_text}
-use Rattle.hub_core.specs.declared.outcome.Outcome.{Outcome}
-use Rattle.hub_core.specs.declared.outcome.Outcome.TheVariants as outcome
+use Rattle.hub_core.specs.declared.step.Outcome.{Outcome}
+use Rattle.hub_core.specs.declared.step.Outcome.TheVariants as outcome
 
 -- the ports of a delivery, where there are some
 abbrev pub ports_text : List EndId → List ℕ

@@ -3,8 +3,8 @@ use Rattle.std.specs.Prelude.{ℕ, List, [], ◌∷◌, ◌++◌, codes}
 use Rattle.hub_steps.specs.declared.shown.Shown.{Shown}
 use Rattle.hub_steps.specs.declared.shown.Shown.TheVariants.{Answer, Moving, Doomed, DoneNoMemory, DoneMoving, BadUrl, OpaqueOrigin, Cast, State, Refused}
 use Rattle.hub_steps.specs.declared.shown.CastPost.{CastPost}
-use Rattle.hub_core.specs.declared.outcome.Outcome.{Outcome}
-use Rattle.hub_core.specs.declared.outcome.Outcome.TheVariants as outcome
+use Rattle.hub_core.specs.declared.step.Outcome.{Outcome}
+use Rattle.hub_core.specs.declared.step.Outcome.TheVariants as outcome
 use Rattle.std.specs.List.{flat_map}
 use Rattle.std.specs.Fmt.{decimal}
 use Rattle.hub_steps.specs.OutcomeText.{outcome_line}

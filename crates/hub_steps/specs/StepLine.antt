@@ -13,6 +13,8 @@ use Rattle.hub_text.specs.EndList.{ends_listed}
 use Rattle.hub_text.specs.Number as text
 use Rattle.hub_text.specs.Reading.{◌>>=◌, some_or}
 use Rattle.hub_text.specs.Word.{cut}
+use Rattle.hub_steps.specs.declared.read_step_line.RarerStep.{RarerStep}
+use Rattle.hub_steps.specs.declared.read_step_line.RarerStep.TheVariants as step
 use Rattle.hub_steps.specs.declared.step_line.PosterName.{PosterName}
 use Rattle.hub_steps.specs.declared.step_line.PosterName.TheVariants.{Port, Line}
 use Rattle.hub_steps.specs.declared.step_line.StepLineError.{StepLineError}
@@ -216,6 +218,32 @@ table =
     ∷ row (codes "see") (A ∷ []) command.See
     ∷ row (codes "event") (A ∷ WORD ∷ []) (λ x. command.Event x.0 x.1)
     ∷ []
+
+-- The name that a text line of the step begins with, where the step is neither a post nor a take.
+abbrev pub spelled : RarerStep → List ℕ
+spelled step.Agent = codes "agent"
+spelled step.Channel = codes "channel"
+spelled step.Client = codes "client"
+spelled step.Worker = codes "worker"
+spelled step.Member = codes "member"
+spelled step.Line = codes "line"
+spelled step.Back = codes "back"
+spelled step.Enter = codes "enter"
+spelled step.Push = codes "push"
+spelled step.Leave = codes "leave"
+spelled step.Hop = codes "hop"
+spelled step.Start = codes "start"
+spelled step.Loaded = codes "loaded"
+spelled step.Look = codes "look"
+spelled step.Hand = codes "hand"
+spelled step.Adopt = codes "adopt"
+spelled step.Close = codes "close"
+spelled step.Sweep = codes "sweep"
+spelled step.Cast = codes "cast"
+spelled step.Part = codes "part"
+spelled step.Order = codes "order"
+spelled step.See = codes "see"
+spelled step.Event = codes "event"
 
 -- the row of that name
 abbrev pub row_named : List ℕ → List Row → Option Row

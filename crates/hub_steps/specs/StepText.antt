@@ -6,7 +6,8 @@ use Rattle.hub_core.specs.Laws.{InOrder}
 use Rattle.hub_steps.specs.declared.step_line.StepLine.{StepLine}
 use Rattle.hub_steps.specs.declared.shown.Shown.{Shown}
 use Rattle.hub_steps.specs.ShownText.{shown_line}
-use Rattle.hub_steps.specs.Lives.{AllLives, lives_after}
+use Rattle.hub_steps.specs.Lives.{AllLives}
+use Rattle.hub_steps.specs.Unfolding.{lives_after}
 use Rattle.hub_steps.specs.Performed.{Performs}
 
 -- the lines, run in order after a history and with these lives, are answered with the text, a line for

@@ -9,13 +9,13 @@ use Rattle.hub_steps.specs.StepLine.{Read, step_line_of}
 abbrev pub ReadSteps : Type 0
 ReadSteps = Result (List StepLine) (ℕ × StepLineError)
 
--- a step line of that number, and what is read of the text lines after it
+-- the step line with that number, before those read from the text lines after it
 abbrev pub at_line : ℕ → Read StepLine → ReadSteps → ReadSteps
 at_line n (Err kind) more = Err (n, kind)
 at_line n (Ok line) (Err bad) = Err bad
 at_line n (Ok line) (Ok lines) = Ok (line ∷ lines)
 
--- the step lines that the text lines are, of which the first has the number n
+-- The step lines that the text lines are. The first text line has the number n.
 unfoldable pub steps_from : ℕ → List (List ℕ) → ReadSteps
 steps_from n [] = Ok []
 steps_from n (bytes ∷ more) = at_line n (step_line_of bytes) (steps_from (n + 1) more)

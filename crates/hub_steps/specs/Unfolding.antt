@@ -1,5 +1,5 @@
--- The core steps that a step line unfolds to, and what it shows.
-use Rattle.std.specs.Prelude.{ℕ, zero, suc, Bool, true, false, not, ◌&&◌, List, [], ◌∷◌, length, nat_lt, if◌then◌else◌, Option, Some, None, option_map, is_some, slice_get, ◌||◌}
+-- The core steps that a step line unfolds to, what it shows, and what becomes of the lives.
+use Rattle.std.specs.Prelude.{ℕ, zero, suc, Bool, true, false, not, ◌&&◌, List, [], ◌∷◌, ◌++◌, length, nat_lt, if◌then◌else◌, Option, Some, None, option_map, is_some, slice_get, ◌||◌}
 use Rattle.hub_envelope.specs.declared.ids.AgentId.{AgentId}
 use Rattle.hub_envelope.specs.declared.ids.EndId.{EndId}
 use Rattle.hub_envelope.specs.declared.envelope.Envelope.{Envelope}
@@ -7,15 +7,14 @@ use Rattle.hub_envelope.specs.declared.limits.TheConstants.{MAX_HOPS, MAX_PORTS}
 use Rattle.hub_core.specs.declared.step.Sender.{Sender}
 use Rattle.hub_core.specs.declared.step.Action.{Action}
 use Rattle.hub_core.specs.declared.step.Action.TheVariants as action
-use Rattle.hub_core.specs.declared.outcome.Outcome.{Outcome}
-use Rattle.hub_core.specs.declared.outcome.Outcome.TheVariants as outcome
-use Rattle.hub_core.specs.declared.outcome.Listing.{Listing}
-use Rattle.hub_core.specs.declared.outcome.Listing.TheVariants.{Good, HoldsTarget, Bad}
+use Rattle.hub_core.specs.declared.step.Outcome.{Outcome}
+use Rattle.hub_core.specs.declared.step.Outcome.TheVariants as outcome
+use Rattle.hub_core.specs.declared.step.Listing.{Listing}
+use Rattle.hub_core.specs.declared.step.Listing.TheVariants.{Good, HoldsTarget, Bad}
 use Rattle.hub_core.specs.Facts.{Facts}
 use Rattle.hub_core.specs.Made.{is_queue, lines_of, maker_of, peer_of}
-use Rattle.hub_core.specs.Making.{is_queue_of}
+use Rattle.hub_core.specs.Legal.{is_queue_of, takes_memory}
 use Rattle.hub_core.specs.declared.kind.Kind.TheVariants.{Client, Worker}
-use Rattle.hub_core.specs.Unchanged.{takes_memory}
 use Rattle.hub_core.specs.Taking.{may_close}
 use Rattle.hub_core.specs.Posting.{may_post, listing}
 use Rattle.hub_steps.specs.declared.shown.Shown.{Shown}
@@ -30,31 +29,21 @@ use Rattle.hub_steps.specs.declared.step_line.PosterCommand.{PosterCommand}
 use Rattle.hub_steps.specs.declared.step_line.PosterCommand.TheVariants as poster
 use Rattle.hub_steps.specs.declared.step_line.Command.{Command}
 use Rattle.hub_steps.specs.declared.step_line.Command.TheVariants as command
-use Rattle.hub_steps.specs.Lives.{AllLives, event_shown}
+use Rattle.hub_steps.specs.Lives.{AllLives, begun, change_life, ended, event_shown, happened}
 use Rattle.hub_steps.specs.Computation.{Computation, pure, ask, step, ◌>>=◌}
 
 abbrev pub poster_command_takes_memory : PosterCommand → Bool
-poster_command_takes_memory poster.Enter = false
 poster_command_takes_memory (poster.Push ports body) = true
-poster_command_takes_memory poster.Leave = false
-poster_command_takes_memory poster.Hop = false
-poster_command_takes_memory poster.Back = false
 poster_command_takes_memory (poster.Post ports body) = true
+poster_command_takes_memory c = false
 
 -- the commands whose steps may be answered want of memory
 abbrev pub command_takes_memory : Command → Bool
 command_takes_memory (command.Step a) = takes_memory a
-command_takes_memory (command.Agent url) = true
-command_takes_memory (command.Worker a) = true
-command_takes_memory (command.Member a name) = true
 command_takes_memory (command.At p c) = poster_command_takes_memory c
 command_takes_memory (command.Loaded e) = false
-command_takes_memory (command.Adopt e a) = true
-command_takes_memory (command.Close e) = true
-command_takes_memory (command.Sweep e) = true
-command_takes_memory (command.See a) = true
-command_takes_memory (command.Cast e ports body) = true
 command_takes_memory (command.Event a event) = false
+command_takes_memory c = true
 
 -- a post takes several steps; each other command of a poster takes one
 abbrev pub is_post : PosterCommand → Bool
@@ -63,18 +52,14 @@ is_post c = false
 
 -- the commands that take one step of the core, or none
 abbrev pub takes_one_step : Command → Bool
-takes_one_step (command.Step a) = true
-takes_one_step (command.Agent url) = true
 takes_one_step (command.Worker a) = false
 takes_one_step (command.Member a name) = false
 takes_one_step (command.At p c) = not (is_post c)
-takes_one_step (command.Loaded e) = true
 takes_one_step (command.Adopt e a) = false
 takes_one_step (command.Close e) = false
 takes_one_step (command.Sweep e) = false
-takes_one_step (command.See a) = true
 takes_one_step (command.Cast e ports body) = false
-takes_one_step (command.Event a event) = true
+takes_one_step c = true
 
 -- a step whose outcome is shown
 abbrev pub shown_step : Bool → Action → Computation Shown
@@ -226,17 +211,16 @@ post refused ports body s = do
 
 -- ---- queues that a step line makes and starts
 
--- What follows a Worker. A new queue is started, which isn't shown.
 abbrev pub start_made : Bool → Outcome → Computation Shown
 start_made refused (outcome.End e) = do
   started ← step refused (action.Start e)
   pure (Answer (outcome.End e))
 start_made refused answer = pure (Answer answer)
 
--- Worker, and then Start of the queue that it made
-abbrev pub worker : Bool → AgentId → Computation Shown
-worker refused a = do
-  answer ← step refused (action.Worker a)
+-- A step that makes a queue, and then Start of the queue that it made, which isn't shown.
+abbrev pub then_start : Bool → Action → Computation Shown
+then_start refused a = do
+  answer ← step refused a
   start_made refused answer
 
 abbrev pub start_where : Bool → EndId → Bool → Computation (Unit {0})
@@ -263,12 +247,6 @@ abbrev pub adopt : Bool → EndId → AgentId → Computation Shown
 adopt refused e a = do
   answer ← step refused (action.Adopt e a)
   start_adopted refused e answer
-
--- Member, and then Start of the broadcast channel that it made
-abbrev pub member : Bool → AgentId → List ℕ → Computation Shown
-member refused a name = do
-  answer ← step refused (action.Member a name)
-  start_made refused answer
 
 abbrev pub load_client : Bool → EndId → Bool → Computation Shown
 load_client refused e true = shown_step refused (action.Start e)
@@ -340,8 +318,8 @@ line_steps refused (poster.Post ports body) s = post refused ports body s
 abbrev pub core_steps : AllLives → Bool → Command → Computation Shown
 core_steps lives refused (command.Step a) = shown_step refused a
 core_steps lives refused (command.Agent url) = agent refused url
-core_steps lives refused (command.Worker a) = worker refused a
-core_steps lives refused (command.Member a name) = member refused a name
+core_steps lives refused (command.Worker a) = then_start refused (action.Worker a)
+core_steps lives refused (command.Member a name) = then_start refused (action.Member a name)
 core_steps lives refused (command.At p c) = on_line_of p (line_steps refused c)
 core_steps lives refused (command.Loaded e) = load refused e
 core_steps lives refused (command.Adopt e a) = adopt refused e a
@@ -350,3 +328,16 @@ core_steps lives refused (command.Sweep e) = sweep refused e
 core_steps lives refused (command.See a) = shown_step refused (action.See a)
 core_steps lives refused (command.Cast e ports body) = cast refused e ports body
 core_steps lives refused (command.Event a event) = pure (event_shown event (slice_get lives a.0))
+
+-- the lives after a new agent was asked for, and this shown
+abbrev pub agent_lives : Shown → AllLives → AllLives
+agent_lives (Answer (outcome.Agent a)) lives = lives ++ None ∷ []
+agent_lives shown lives = lives
+
+-- the lives after a command that showed this
+abbrev pub lives_after : Command → Shown → AllLives → AllLives
+lives_after (command.Agent url) shown lives = agent_lives shown lives
+lives_after (command.Worker a) (Answer (outcome.End e)) lives = change_life begun a.0 lives
+lives_after (command.See a) (Answer (outcome.Ending es)) lives = change_life ended a.0 lives
+lives_after (command.Event a event) shown lives = change_life (happened event) a.0 lives
+lives_after c shown lives = lives

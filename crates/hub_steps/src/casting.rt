@@ -72,7 +72,7 @@ fn cast_over(
     Ok(answer)
 }
 
-/// Pushes where the poster is inside. Answers the outcome of that, or else that of the Enter.
+/// Pushes where the poster is inside. Answers what the Push was answered, or else the Enter.
 fn push_inside(
     alloc: Global,
     core: &mut Core,

@@ -40,8 +40,8 @@ fn notice_line(core: &Core, end: EndId) -> Option<Sender>
     }
 }
 
-/// Enters, and puts the notice where the poster is inside. Answers the outcome of that, or else of
-/// the last Enter.
+/// Enters, and puts the notice where the poster is inside. Answers what the Notice was answered, or
+/// else what the last Enter was.
 fn tell(core: &mut Core, line: Sender, memory_refused: bool) -> Result<Outcome, OutOfMemory>
     ensures { IfOk result (λ told. ComputesAt core.old core.new (tell memory_refused line) told) }
 {

@@ -1,7 +1,7 @@
 //! One step of the core, and an Enter with its hops.
 
 ghost use Rattle.std.specs.Prelude.{◌≡◌, IfOk, OnErr, true};
-ghost use Rattle.hub_core.specs.Unchanged.{takes_memory};
+ghost use Rattle.hub_core.specs.Legal.{takes_memory};
 ghost use Rattle.hub_core.specs.Shows.{StillShows};
 ghost use Rattle.hub_envelope.specs.declared.limits.TheConstants.{MAX_HOPS};
 ghost use Rattle.hub_steps.specs.Computation.{step};

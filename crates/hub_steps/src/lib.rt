@@ -8,7 +8,6 @@ mod entering;
 mod lives;
 mod perform;
 mod posting;
-mod rarer_step;
 pub mod read_step_line;
 mod run;
 mod session;

@@ -4,11 +4,10 @@ ghost use Rattle.std.specs.Prelude.{◌≡◌, IfOk, OnErr, false, true};
 ghost use Rattle.hub_core.specs.Facts.{facts};
 ghost use Rattle.hub_core.specs.History.{History};
 ghost use Rattle.hub_core.specs.Shows.{Shows, StillShows};
-ghost use Rattle.hub_steps.specs.Lives.{lives_after};
 ghost use Rattle.hub_steps.specs.Performed.{ComputesAt, PerformsAt};
-ghost use Rattle.hub_steps.specs.Unfolding.{command_takes_memory, is_post, line_steps, on_line_of};
-ghost use Rattle.hub_steps.specs.Unfolding.{poster_command_takes_memory, sender_of, shown_step};
-ghost use Rattle.hub_steps.specs.Unfolding.{takes_one_step};
+ghost use Rattle.hub_steps.specs.Unfolding.{command_takes_memory, is_post, line_steps, lives_after};
+ghost use Rattle.hub_steps.specs.Unfolding.{on_line_of, poster_command_takes_memory, sender_of};
+ghost use Rattle.hub_steps.specs.Unfolding.{shown_step, takes_one_step};
 
 use crate::casting::cast;
 use crate::closing::{close, sweep};

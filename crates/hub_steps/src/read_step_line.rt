@@ -1,25 +1,14 @@
 //! The reader of one text line of step lines.
 
-ghost use Rattle.std.specs.Prelude.{
-  ◌≡◌,
-  ◌≢◌,
-  [],
-  ◌∷◌,
-  IfErr,
-  Ok,
-  false,
-  option_map,
-  true,
-};
+ghost use Rattle.std.specs.Prelude.{◌≡◌, ◌≢◌, [], ◌∷◌, IfErr, IfSome, None, Ok, bytes_eq};
+ghost use Rattle.std.specs.Prelude.{codes, false, option_map, true};
 ghost use Rattle.hub_text.specs.Reading.{IsReadAs};
-ghost use Rattle.hub_steps.specs.RarerStep.{spelled};
 ghost use Rattle.hub_steps.specs.ReadMemory.{has_part, reads_memory, text_reads_memory};
 ghost use Rattle.hub_steps.specs.StepLine.{A, BODY, E, LIST, NAME, P, U, WORD, command_in};
 ghost use Rattle.hub_steps.specs.StepLine.{command_of, cut_after, last_word, line_read, mark};
-ghost use Rattle.hub_steps.specs.StepLine.{number_read, poster_named, step_line_of, word_read};
-ghost use Rattle.hub_steps.specs.StepLine.{words_after};
+ghost use Rattle.hub_steps.specs.StepLine.{number_read, poster_named, row_named, spelled};
+ghost use Rattle.hub_steps.specs.StepLine.{step_line_of, table, word_read, words_after};
 
-use crate::rarer_step::{RarerStep, rarer_step_named};
 use crate::step_line::{AgentUrl, Command, PosterCommand, PosterName, StepLine, StepLineError};
 use hub_core::Action;
 use hub_envelope::{AgentId, Body, EndId, Items, LineId, Text};
@@ -28,6 +17,34 @@ use hub_origin::{OriginError, origin_of};
 use hub_text::{cut_at, next_word, number_of as number_up_to, read_ends};
 use serde_json::Value;
 use std::alloc::Global;
+
+/// A step that is neither a post nor a take.
+#[derive(Clone, Copy)]
+pub(crate) enum RarerStep {
+    Agent,
+    Channel,
+    Client,
+    Worker,
+    Member,
+    Line,
+    Back,
+    Enter,
+    Push,
+    Leave,
+    Hop,
+    Start,
+    Loaded,
+    Look,
+    Hand,
+    Adopt,
+    Close,
+    Sweep,
+    Cast,
+    Part,
+    Order,
+    See,
+    Event,
+}
 
 /// The step line that a text line is. Its tests come in the order of `StepLineError`, and from the
 /// left; want of memory may come at a body, a list, a name or a URL.
@@ -97,6 +114,42 @@ fn command_of(alloc: Global, name: &str, rest: Option<&str>) -> Result<Command, 
             Some(step) => rarer_command_of(alloc, step, rest),
             None => Err(StepLineError::UnknownStep),
         },
+    }
+}
+
+/// The step of that name. `None` where no step has it.
+#[tactic(auto, using(crate::proofs::Names::equal))]
+fn rarer_step_named(name: &str) -> Option<RarerStep>
+    requires { (bytes_eq name.now (codes "post") ≡ false)
+        × (bytes_eq name.now (codes "take") ≡ false) }
+    ensures step { IfSome result (λ step. name.now ≡ spelled step) }
+    ensures none { result ≡ None → row_named name.now table ≡ None }
+{
+    match name {
+        "agent" => Some(RarerStep::Agent),
+        "channel" => Some(RarerStep::Channel),
+        "client" => Some(RarerStep::Client),
+        "worker" => Some(RarerStep::Worker),
+        "member" => Some(RarerStep::Member),
+        "line" => Some(RarerStep::Line),
+        "back" => Some(RarerStep::Back),
+        "enter" => Some(RarerStep::Enter),
+        "push" => Some(RarerStep::Push),
+        "leave" => Some(RarerStep::Leave),
+        "hop" => Some(RarerStep::Hop),
+        "start" => Some(RarerStep::Start),
+        "loaded" => Some(RarerStep::Loaded),
+        "look" => Some(RarerStep::Look),
+        "hand" => Some(RarerStep::Hand),
+        "adopt" => Some(RarerStep::Adopt),
+        "close" => Some(RarerStep::Close),
+        "sweep" => Some(RarerStep::Sweep),
+        "cast" => Some(RarerStep::Cast),
+        "part" => Some(RarerStep::Part),
+        "order" => Some(RarerStep::Order),
+        "see" => Some(RarerStep::See),
+        "event" => Some(RarerStep::Event),
+        _ => None,
     }
 }
 

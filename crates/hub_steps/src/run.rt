@@ -7,7 +7,8 @@ ghost use Rattle.hub_engine.specs.Counted.{inner_writer, failed_writes, flushes_
 ghost use Rattle.hub_engine.specs.Engine.{Writes};
 ghost use Rattle.hub_engine.specs.Failures.{CountsFailure, CountsFlush};
 ghost use Rattle.hub_text.specs.TextLines.{text_lines_of};
-ghost use Rattle.hub_steps.specs.Lives.{AllLives, lives_after};
+ghost use Rattle.hub_steps.specs.Lives.{AllLives};
+ghost use Rattle.hub_steps.specs.Unfolding.{lives_after};
 ghost use Rattle.hub_steps.specs.Output.{IsRunOutput};
 ghost use Rattle.hub_steps.specs.Performed.{PerformsAt};
 ghost use Rattle.hub_steps.specs.ShownText.{shown_line};

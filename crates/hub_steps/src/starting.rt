@@ -2,10 +2,9 @@
 
 ghost use Rattle.std.specs.Prelude.{◌≡◌, IfOk, IsOk, OnErr, OnOk};
 ghost use Rattle.hub_core.specs.Shows.{StillShows};
-ghost use Rattle.hub_steps.specs.Lives.{agent_lives, lives_after};
 ghost use Rattle.hub_steps.specs.Performed.{ComputesAt};
-ghost use Rattle.hub_steps.specs.Unfolding.{adopt, agent, load, member, shown_step, start_worker};
-ghost use Rattle.hub_steps.specs.Unfolding.{worker};
+ghost use Rattle.hub_steps.specs.Unfolding.{adopt, agent, agent_lives, lives_after, load};
+ghost use Rattle.hub_steps.specs.Unfolding.{shown_step, start_worker, then_start};
 
 use crate::entering::{show_step, take_step};
 use crate::lives::Lives;
@@ -62,6 +61,20 @@ fn add_agent(
     }
 }
 
+/// Takes a step that makes a queue, and starts the queue that it made.
+fn then_start(core: &mut Core, action: Action, memory_refused: bool) -> Result<Outcome, OutOfMemory>
+    ensures { IfOk result (λ answer. ComputesAt core.old core.new
+        (then_start memory_refused action) (Shown.Answer answer)) }
+{
+    match take_step(core, action, memory_refused)? {
+        Outcome::End(end) => {
+            take_step(core, Action::Start(end), memory_refused)?;
+            Ok(Outcome::End(end))
+        }
+        answer => Ok(answer),
+    }
+}
+
 /// Makes the queue of a worker, and starts it. The agent has a life from then on.
 pub fn make_worker(
     core: &mut Core,
@@ -69,19 +82,16 @@ pub fn make_worker(
     agent: AgentId,
     memory_refused: bool,
 ) -> Result<Shown, OutOfMemory>
-    ensures shown { IfOk result (λ shown.
-        ComputesAt core.old core.new (worker memory_refused agent) shown) }
+    ensures shown { IfOk result (λ shown. ComputesAt core.old core.new
+        (then_start memory_refused (Action.Worker agent)) shown) }
     ensures lives { IfOk result (λ shown.
         lives.new ≡ lives_after (Command.Worker agent) shown lives.old) }
 {
-    match take_step(core, Action::Worker(agent), memory_refused)? {
-        Outcome::End(end) => {
-            take_step(core, Action::Start(end), memory_refused)?;
-            lives.begin(agent);
-            Ok(Shown::Answer(Outcome::End(end)))
-        }
-        answer => Ok(Shown::Answer(answer)),
+    let answer = then_start(core, Action::Worker(agent), memory_refused)?;
+    if matches!(answer, Outcome::End(_)) {
+        lives.begin(agent);
     }
+    Ok(Shown::Answer(answer))
 }
 
 /// Makes a broadcast channel, and starts it.
@@ -91,16 +101,11 @@ pub fn make_member(
     name: Text,
     memory_refused: bool,
 ) -> Result<Shown, OutOfMemory>
-    ensures { IfOk result (λ shown.
-        ComputesAt core.old core.new (member memory_refused agent name) shown) }
+    ensures { IfOk result (λ shown. ComputesAt core.old core.new
+        (then_start memory_refused (Action.Member agent name)) shown) }
 {
-    match take_step(core, Action::Member(agent, name), memory_refused)? {
-        Outcome::End(member) => {
-            take_step(core, Action::Start(member), memory_refused)?;
-            Ok(Shown::Answer(Outcome::End(member)))
-        }
-        answer => Ok(Shown::Answer(answer)),
-    }
+    let answer = then_start(core, Action::Member(agent, name), memory_refused)?;
+    Ok(Shown::Answer(answer))
 }
 
 /// Adopts an end, and starts it where it is a worker's queue.

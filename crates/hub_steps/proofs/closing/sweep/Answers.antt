@@ -1,6 +1,6 @@
 use Rattle.std.proofs.Common.{sym, subst}
 use Rattle.hub_core.specs.declared.step.Action.TheVariants as action
-use Rattle.hub_core.specs.declared.outcome.Outcome.TheVariants as outcome
+use Rattle.hub_core.specs.declared.step.Outcome.TheVariants as outcome
 use Rattle.hub_steps.specs.declared.shown.Shown.TheVariants.{Answer}
 use Rattle.hub_steps.specs.Computation.{step}
 use Rattle.hub_steps.specs.Performed.{ComputesAt}

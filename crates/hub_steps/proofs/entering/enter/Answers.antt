@@ -1,7 +1,7 @@
 use Rattle.std.proofs.Common.{◌≡◌, sym, subst, ◌∙◌, arith}
 use Rattle.std.proofs.lemmas.Bool.{false≢true}
 use Rattle.hub_core.specs.declared.step.Action.TheVariants as action
-use Rattle.hub_core.specs.declared.outcome.Outcome.TheVariants as outcome
+use Rattle.hub_core.specs.declared.step.Outcome.TheVariants as outcome
 use Rattle.hub_steps.specs.Computation.{step}
 use Rattle.hub_steps.specs.Performed.{ComputesAt}
 use Rattle.hub_steps.proofs.Computing.{hopped_none, hopped_more, hopped_done, hopped_end}

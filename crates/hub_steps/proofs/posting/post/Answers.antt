@@ -1,6 +1,6 @@
 use Rattle.std.proofs.Common.{◌<◌, ◌≤◌, ◌∙◌, length, subst, sym, arith}
-use Rattle.hub_core.specs.declared.outcome.Listing.TheVariants.{Good, HoldsTarget, Bad}
-use Rattle.hub_core.specs.declared.outcome.Outcome.TheVariants as outcome
+use Rattle.hub_core.specs.declared.step.Listing.TheVariants.{Good, HoldsTarget, Bad}
+use Rattle.hub_core.specs.declared.step.Outcome.TheVariants as outcome
 use Rattle.hub_steps.specs.declared.shown.Shown.TheVariants.{Answer, Doomed}
 use Rattle.hub_steps.specs.Performed.{ComputesAt}
 use Rattle.hub_steps.specs.Unfolding.{send, post}

@@ -1,7 +1,10 @@
 -- Each arm: what the family did to the core is what the facts say.
 use Rattle.hub_core.proofs.Casts.{cast_fits, cast_changes}
 use Rattle.std.proofs.Common.{refl, ap, ◌∙◌, subst, sym}
-use Rattle.hub_core.proofs.Words.{FitsSweep, leave_answer, agent_answer, channel_answer, order_answer, back_answer, adopt_answer, start_answer, Client, Worker, hop_answer, enter_answer, close_answer, hand_answer}
+use Rattle.hub_core.proofs.Words.{FitsSweep, Client, Worker}
+use Rattle.hub_core.specs.Posting.{enter_answer, leave_answer}
+use Rattle.hub_core.specs.Legal.{agent_answer, back_answer, channel_answer, order_answer}
+use Rattle.hub_core.specs.Taking.{adopt_answer, close_answer, hand_answer, hop_answer, start_answer}
 use Rattle.hub_core.specs.declared.step.Action.TheVariants as action
 use Rattle.hub_core.proofs.Took.{client_core, worker_core, same_content, took_where, took_by, told, told_or, member_took, part_took}
 use Rattle.hub_core.proofs.EndSteps.{agent_changes, channel_changes, queue_answered, client_changes, worker_changes, adopt_changes, close_changes, hand_changes, hop_changes}

@@ -1,6 +1,7 @@
 -- What a push answers is what its tests say.
 use Rattle.std.proofs.Common.{◌∙◌, ◌≡◌, ap, rules, subst, sym}
-use Rattle.hub_core.proofs.Words.{core_after, line_of, may_put, push_answer, seen}
+use Rattle.hub_core.proofs.Words.{core_after, line_of, may_put, seen}
+use Rattle.hub_core.specs.Posting.{push_answer}
 use Rattle.hub_core.specs.declared.step.Action.TheVariants as action
 use Rattle.hub_core.proofs.machine.Core.push.Goals as goal
 

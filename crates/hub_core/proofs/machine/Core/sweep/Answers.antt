@@ -2,7 +2,7 @@
 use Rattle.std.proofs.Common.{Some, [], ap, set, subst, sym, ◌≡◌, ◌∙◌}
 use Rattle.hub_core.proofs.Words.{CoreState, End, Swept, change_at, joined, moved_ends, option_map, ports_of, set_at, slice_get, slice_get-get_or, slice_get_within, unwrap_or}
 use Rattle.hub_core.specs.contracts.machine.Core.{the_view}
-use Rattle.hub_core.specs.declared.outcome.Outcome.TheVariants as outcome
+use Rattle.hub_core.specs.declared.step.Outcome.TheVariants as outcome
 use Rattle.hub_core.proofs.machine.Core.sweep.Goals as goal
 
 pub returns : goal.returns
