@@ -8,8 +8,8 @@ use Rattle.hub_clients.specs.Handing.{taker_of}
 use Rattle.hub_envelope.specs.declared.ids.EndId.{EndId}
 use Rattle.hub_ports.specs.Seats.{PortSeat}
 use Rattle.hub_loop.specs.declared.held.Held.{Held}
-use Rattle.hub_loop.specs.Adopting.{Stored, HoldsMore, SameClosed, SameStored, IsPortBuried, IsOneAdopted, AreAdopted, ArePartlyAdopted, IsFetched, IsQueueAdopted, IsTakenFrom, KeepsFetched}
-use Rattle.hub_loop.specs.States.{ClosedState, ReceivingState}
+use Rattle.hub_loop.specs.Adopting.{HoldsMore, SameClosed, SameStored, IsPortBuried, IsOneAdopted, AreAdopted, ArePartlyAdopted, IsFetched, IsQueueAdopted, IsTakenFrom, KeepsFetched}
+use Rattle.hub_loop.specs.States.{ClosedState, HoldingState, ReceivingState}
 
 -- what was held before may be told of another slab that holds the same
 pub holds-after : (old mid new : Slab Held) (h : Held) → SameValues old mid → HoldsMore mid new h → HoldsMore old new h
@@ -23,28 +23,28 @@ pub buried-after : (p : PortSeat) (old mid new : ClosedState) → SameClosed old
 buried-after p old mid new same buried =
     (buried.0, buried.1, buried.2, buried.3, buried.4 ∙ ap (λ graves. graves ++ buried.0 ∷ []) same.0, buried.5 ∙ ap (λ noticed. noticed ++ buried.1 ∷ []) same.1)
 
-one-after : (p : PortSeat) (old mid new : Stored) (before after : List EndId) → SameStored old mid → IsOneAdopted p mid new before after → IsOneAdopted p old new before after
+one-after : (p : PortSeat) (old mid new : HoldingState) (before after : List EndId) → SameStored old mid → IsOneAdopted p mid new before after → IsOneAdopted p old new before after
 one-after p old mid new before after same one =
     ⊎_elim
-    (λ (held : _). inl (held.0, held.1, holds-after old.held mid.held new.held _ same.0 held.2, closed-after old.closed mid.closed new.closed same.1 held.3, held.4))
+    (λ (held : _). inl (held.0, held.1, holds-after old.ends.held mid.ends.held new.ends.held _ same.0 held.2, closed-after old.closed mid.closed new.closed same.1 held.3, held.4))
     (λ (unfit : _). inr (unfit.0, unfit.1, unfit.2, (λ k. unfit.3 k ∙ same.0 k), buried-after p old.closed mid.closed new.closed same.1 unfit.4, unfit.5))
     one
 
 -- one port more
-pub adopts-more : (ps : List PortSeat) (p : PortSeat) (old mid new : Stored) (a b c : List EndId) → AreAdopted ps old mid a b → IsOneAdopted p mid new b c → AreAdopted (ps ++ p ∷ []) old new a c
+pub adopts-more : (ps : List PortSeat) (p : PortSeat) (old mid new : HoldingState) (a b c : List EndId) → AreAdopted ps old mid a b → IsOneAdopted p mid new b c → AreAdopted (ps ++ p ∷ []) old new a c
 adopts-more [] p old mid new a b c did one =
     (new, c, one-after p old mid new a c did.0 (subst (λ x. IsOneAdopted p mid new x c) did.1 one), (((λ k. refl), (refl, refl)), refl))
 adopts-more (q ∷ ps) p old mid new a b c did one =
     (did.0, did.1, did.2, adopts-more ps p did.0 mid new did.1 b c did.3 one)
 
 -- the same is held afterwards
-pub adopts-same : (ps : List PortSeat) (old mid new : Stored) (a b : List EndId) → AreAdopted ps old mid a b → SameStored mid new → AreAdopted ps old new a b
+pub adopts-same : (ps : List PortSeat) (old mid new : HoldingState) (a b : List EndId) → AreAdopted ps old mid a b → SameStored mid new → AreAdopted ps old new a b
 adopts-same [] old mid new a b did same = (((λ k. same.0 k ∙ did.0.0 k), closed-after old.closed mid.closed new.closed did.0.1 same.1), did.1)
 adopts-same (q ∷ ps) old mid new a b did same =
     (did.0, did.1, did.2, adopts-same ps did.0 mid new did.1 b did.3 same)
 
 -- one port more was adopted or refused for good
-pub partly-more : (old mid new : ReceivingState) (before between after : Stored) (p : PortSeat) → ((done : List PortSeat) × ArePartlyAdopted old mid before between done) → mid.found ≡ p ∷ new.found → IsOneAdopted p between after mid.missing new.missing → (done : List PortSeat) × ArePartlyAdopted old new before after done
+pub partly-more : (old mid new : ReceivingState) (before between after : HoldingState) (p : PortSeat) → ((done : List PortSeat) × ArePartlyAdopted old mid before between done) → mid.found ≡ p ∷ new.found → IsOneAdopted p between after mid.missing new.missing → (done : List PortSeat) × ArePartlyAdopted old new before after done
 partly-more old mid new before between after p partly first one = (
   partly.0 ++ p ∷ [],
   (
@@ -54,7 +54,7 @@ partly-more old mid new before between after p partly first one = (
 )
 
 -- nothing more was done
-pub partly-same : (old mid new : ReceivingState) (before between after : Stored) → ((done : List PortSeat) × ArePartlyAdopted old mid before between done) → new.found ≡ mid.found → SameStored between after → new.missing ≡ mid.missing → (done : List PortSeat) × ArePartlyAdopted old new before after done
+pub partly-same : (old mid new : ReceivingState) (before between after : HoldingState) → ((done : List PortSeat) × ArePartlyAdopted old mid before between done) → new.found ≡ mid.found → SameStored between after → new.missing ≡ mid.missing → (done : List PortSeat) × ArePartlyAdopted old new before after done
 partly-same old mid new before between after partly found same missing = (
   partly.0,
   (
@@ -65,13 +65,13 @@ partly-same old mid new before between after partly found same missing = (
 )
 
 -- no port is left
-pub all-done : (old new : ReceivingState) (before after : Stored) → ((done : List PortSeat) × ArePartlyAdopted old new before after done) → new.found ≡ [] → AreAdopted old.found before after old.missing new.missing
+pub all-done : (old new : ReceivingState) (before after : HoldingState) → ((done : List PortSeat) × ArePartlyAdopted old new before after done) → new.found ≡ [] → AreAdopted old.found before after old.missing new.missing
 all-done old new before after partly none =
     let all : old.found ≡ partly.0 = partly.1.0 ∙ ap (λ ps. partly.0 ++ ps) none ∙ append-nil partly.0 in
     subst (λ ps. AreAdopted ps before after old.missing new.missing) (sym all) partly.1.1
 
 -- a queue that was adopted or refused for good was fetched
-pub fetched : (held : Bool) (q : HandedQueue) (old new : Stored) (end : EndId) → (taker_of q).end ≡ end.0 → IsQueueAdopted q old new held → IsFetched held old new end
+pub fetched : (held : Bool) (q : HandedQueue) (old new : HoldingState) (end : EndId) → (taker_of q).end ≡ end.0 → IsQueueAdopted q old new held → IsFetched held old new end
 fetched true q old new end is did = (q, is, did)
 fetched false q old new end is did = inr (q, is, did)
 
@@ -89,5 +89,5 @@ fetched-kept q back old at rest new end was is taken same more =
       | inr moved ↦ inl (IsPermutation-trans old (q ∷ rest) new (subst (λ l. IsPermutation l (q ∷ rest)) was moved) behind)
     ]
 
-pub stored-same : (s : Stored) → SameStored s s
+pub stored-same : (s : HoldingState) → SameStored s s
 stored-same s = ((λ k. refl), (refl, refl))

@@ -40,25 +40,25 @@ due-kept None holding count d is = absurd cc
 due-kept (Some k) holding count d is = (let same : d ≡ k = cc in ap Ok same, refl, refl, refl)
 
 -- no end gave an envelope where no delivery was kept
-pub due-nothing : (kept : Option DeliveryState) (old new : HoldingState) (looks : List BoardStep) (before after : Count) (served : Served) (busy : Bool) (due : Result DeliveryState Bool) → kept ≡ None → served ≡ Nothing busy → due ≡ Err busy → AreServed old.next old.held new.held old.ready.marks looks before after served → new.next ≡ next_after old.next served → new.closed ≡ old.closed → IsDue kept old new looks before after due
+pub due-nothing : (kept : Option DeliveryState) (old new : HoldingState) (looks : List BoardStep) (before after : Count) (served : Served) (busy : Bool) (due : Result DeliveryState Bool) → kept ≡ None → served ≡ Nothing busy → due ≡ Err busy → AreServed old.ends.next old.ends.held new.ends.held old.ends.ready.marks looks before after served → new.ends.next ≡ next_after old.ends.next served → new.closed ≡ old.closed → IsDue kept old new looks before after due
 due-nothing kept old new looks before after served busy due none is came did next closed =
     subst (λ k. IsDue k old new looks before after due) (sym none)
     (subst (IsDue None old new looks before after) (sym came) (
-      subst (AreServed old.next old.held new.held old.ready.marks looks before after) is did,
-      next ∙ ap (next_after old.next) is,
+      subst (AreServed old.ends.next old.ends.held new.ends.held old.ends.ready.marks looks before after) is did,
+      next ∙ ap (next_after old.ends.next) is,
       closed,
     ))
 
 -- an end gave one
-pub due-given : (kept : Option DeliveryState) (old new : HoldingState) (looks : List BoardStep) (before after : Count) (served : Served) (key : ℕ) (v : Envelope) (d : DeliveryState) (due : Result DeliveryState Bool) → kept ≡ None → served ≡ Given key v → due ≡ Ok d → d ≡ record { envelope = v; arrival = None } → AreServed old.next old.held new.held old.ready.marks looks before after served → IsServedMarked new.ready.marks served → new.next ≡ next_after old.next served → new.closed ≡ old.closed → IsDue kept old new looks before after due
+pub due-given : (kept : Option DeliveryState) (old new : HoldingState) (looks : List BoardStep) (before after : Count) (served : Served) (key : ℕ) (v : Envelope) (d : DeliveryState) (due : Result DeliveryState Bool) → kept ≡ None → served ≡ Given key v → due ≡ Ok d → d ≡ record { envelope = v; arrival = None } → AreServed old.ends.next old.ends.held new.ends.held old.ends.ready.marks looks before after served → IsServedMarked new.ends.ready.marks served → new.ends.next ≡ next_after old.ends.next served → new.closed ≡ old.closed → IsDue kept old new looks before after due
 due-given kept old new looks before after served key v d due none is came made did marked next closed =
     subst (λ k. IsDue k old new looks before after due) (sym none)
     (subst (IsDue None old new looks before after) (sym came) (
       key,
       v,
       made,
-      subst (AreServed old.next old.held new.held old.ready.marks looks before after) is did,
-      next ∙ ap (next_after old.next) is,
-      subst (IsServedMarked new.ready.marks) is marked,
+      subst (AreServed old.ends.next old.ends.held new.ends.held old.ends.ready.marks looks before after) is did,
+      next ∙ ap (next_after old.ends.next) is,
+      subst (IsServedMarked new.ends.ready.marks) is marked,
       closed,
     ))

@@ -10,11 +10,12 @@ use Rattle.hub_ready.specs.Finding.{GrowsMarks, SameEntries}
 use Rattle.hub_ready.specs.Marking.{mark_of, HasBit, SameBut}
 use Rattle.hub_queue.specs.Counting.{Count}
 use Rattle.hub_queue.specs.declared.taker.Took.{Took}
+use Rattle.hub_loop.specs.declared.ends.HeldEnds.{HeldEnds}
 use Rattle.hub_loop.specs.declared.held.Held.{Held}
 use Rattle.hub_loop.specs.declared.serving.Served.{Served}
 use Rattle.hub_loop.specs.declared.serving.Served.TheVariants.{Given, Nothing}
 use Rattle.hub_loop.specs.Holding.{end_held}
-use Rattle.hub_loop.specs.Marking.{AreMarked, AreNewMarked}
+use Rattle.hub_loop.specs.Marking.{AreMarked, AreNewMarked, MarksKept}
 use Rattle.hub_loop.specs.Reaching.{AreReached}
 use Rattle.hub_loop.specs.Serving.{AskedAll, IsAskedAt, IsSlotAsked}
 use Rattle.hub_loop.specs.States.{DeliveryState, HoldingState}
@@ -26,20 +27,23 @@ pub marked-as : (old new : Slab Held) (r q : Ready) → SameValues old new → (
 marked-as old new r q same marks key held end is number = inr (sym (same key) ∙ is, marks key)
 
 -- all is as it was
-pub marked-same : (slots : Slab Held) (r : Ready) → AreMarked slots r slots r
-marked-same slots r key held end is number = inr (is, refl)
+pub kept_same : (ends : HeldEnds) → MarksKept ends ends
+kept_same ends = record { marked = λ key held end is number. inr (is, refl); next = refl }
 
 -- one step after another
-pub marked-after : (old mid new : Slab Held) (r m q : Ready) → AreMarked old r mid m → AreMarked mid m new q → AreMarked old r new q
-marked-after old mid new r m q first second key held end is number =
-    elim (second key held end is number) [
-      | inl marked ↦ inl marked
-      | inr same ↦
-          elim (first key held end same.0 number) [
-            | inl marked ↦ inl (same.1 ∙ marked)
-            | inr was ↦ inr (was.0, same.1 ∙ was.1)
-          ]
-    ]
+pub kept_after : {old mid new : HeldEnds} → MarksKept old mid → MarksKept mid new → MarksKept old new
+kept_after first second = record {
+  marked = λ key held end is number.
+      elim (second.marked key held end is number) [
+        | inl marked ↦ inl marked
+        | inr same ↦
+            elim (first.marked key held end same.0 number) [
+              | inl marked ↦ inl (same.1 ∙ marked)
+              | inr was ↦ inr (was.0, same.1 ∙ was.1)
+            ]
+      ];
+  next = second.next ∙ first.next;
+}
 
 -- under one key all may have changed
 pub marked-but : (old new : Slab Held) (r q : Ready) (key : ℕ) → ((other : ℕ) → other ≢ key → get new other ≡ get old other) → SameBut key r.marks q.marks → ((held : Held) (end : EndId) → get new key ≡ Some held → end_held held ≡ Some end → mark_of q.marks key ≡ 1) → AreMarked old r new q
@@ -84,23 +88,23 @@ none-all (key ∷ keys) old new before after busy asked other none =
     (none-all keys old asked.0 before asked.1 asked.2 asked.4 other none)
 
 -- where nothing was held before the ends were asked nothing is held then
-none-due : (kept : Option DeliveryState) (old new : HoldingState) (looks : List BoardStep) (before after : Count) (due : Result DeliveryState Bool) → IsDue kept old new looks before after due → (key : ℕ) → get old.held key ≡ None → get new.held key ≡ None
-none-due (Some k) old new looks before after due is key none = ap (λ (holding : HoldingState). get holding.held key) is.1 ∙ none
+none-due : (kept : Option DeliveryState) (old new : HoldingState) (looks : List BoardStep) (before after : Count) (due : Result DeliveryState Bool) → IsDue kept old new looks before after due → (key : ℕ) → get old.ends.held key ≡ None → get new.ends.held key ≡ None
+none-due (Some k) old new looks before after due is key none = ap (λ (holding : HoldingState). get holding.ends.held key) is.1 ∙ none
 none-due None old new looks before after (Ok d) is key none =
     let gave = is.3.1 in
-    none-asked gave.middle new.held is.0 gave.count after (Given is.0 is.1) gave.given key
-    (none-all is.3.0 old.held gave.middle before gave.count gave.busy gave.earlier key none)
+    none-asked gave.middle new.ends.held is.0 gave.count after (Given is.0 is.1) gave.given key
+    (none-all is.3.0 old.ends.held gave.middle before gave.count gave.busy gave.earlier key none)
 none-due None old new looks before after (Err busy) is key none =
-    none-all is.0.0 old.held new.held before after busy is.0.1 key none
+    none-all is.0.0 old.ends.held new.ends.held before after busy is.0.1 key none
 
 -- what a turn has adopted is marked
-pub marked-due : (kept : Option DeliveryState) (old mid : HoldingState) (new : Slab Held) (q : Ready) (looks : List BoardStep) (before after : Count) (due : Result DeliveryState Bool) → IsDue kept old mid looks before after due → AreMarked mid.held mid.ready new q → AreNewMarked old.held new q
-marked-due kept old mid new q looks before after due is marked key held end none there number =
-    elim (marked key held end there number) [
+pub marked-due : (kept : Option DeliveryState) (old mid : HoldingState) (new : HeldEnds) (looks : List BoardStep) (before after : Count) (due : Result DeliveryState Bool) → IsDue kept old mid looks before after due → MarksKept mid.ends new → AreNewMarked old.ends new
+marked-due kept old mid new looks before after due is marks key held end none there number =
+    elim (marks.marked key held end there number) [
       | inl set ↦ set
       | inr same ↦ absurd (let gone = none-due kept old mid looks before after due is key none in cc (same.0, gone))
     ]
 
 -- a turn that has adopted nothing
-pub marked-none : (kept : Option DeliveryState) (old new : HoldingState) (looks : List BoardStep) (before after : Count) (due : Result DeliveryState Bool) → IsDue kept old new looks before after due → AreNewMarked old.held new.held new.ready
-marked-none kept old new looks before after due is = marked-due kept old new new.held new.ready looks before after due is (marked-same new.held new.ready)
+pub marked-none : (kept : Option DeliveryState) (old new : HoldingState) (looks : List BoardStep) (before after : Count) (due : Result DeliveryState Bool) → IsDue kept old new looks before after due → AreNewMarked old.ends new.ends
+marked-none kept old new looks before after due is = marked-due kept old new new.ends looks before after due is (kept_same new.ends)

@@ -5,12 +5,13 @@ use Rattle.slab.specs.Slab.{Slab, get, with_value}
 use Rattle.hub_envelope.specs.declared.envelope.Envelope.{Envelope}
 use Rattle.hub_ready.specs.Marking.{mark_of, SameBut}
 use Rattle.hub_queue.specs.Counting.{Count}
+use Rattle.hub_loop.specs.declared.ends.HeldEnds.{HeldEnds}
 use Rattle.hub_loop.specs.declared.held.Held.{Held}
 use Rattle.hub_queue.specs.declared.taker.Took.{Took}
 use Rattle.hub_queue.specs.declared.taker.Took.TheVariants.{Got, Empty, Busy, Again, Disabled, Closed}
 use Rattle.hub_loop.specs.Asking.{IsHeldAsked}
 use Rattle.hub_loop.specs.Serving.{served_by, IsSlotAsked, IsTakenAtKey, IsAskedAt, AskedAll, HasGiven, HasOrder, IsIn}
-use Rattle.hub_loop.specs.Scanning.{EndsSeat, CameTo, HasPassedKeys, HasWalked, NoneBetween, StayMarked}
+use Rattle.hub_loop.specs.Scanning.{CameTo, HasPassedKeys, HasWalked, NoneBetween, StayMarked}
 use Rattle.hub_loop.specs.declared.serving.Served.{Served}
 use Rattle.hub_loop.specs.declared.serving.Served.TheVariants.{Given, Nothing}
 use Rattle.hub_loop.specs.declared.serving.Which.{Which}
@@ -197,11 +198,11 @@ came-join keys more old mid new before c after was busy (Nothing now) first seco
 )
 
 -- nothing was walked yet
-pub walked-none : (which : Which) (low : ℕ) (at : EndsSeat) (count : Count) (was : Bool) → HasWalked which low low at at count count was (Nothing was)
-walked-none which low at count was = ([], (false, (refl, refl, refl), refl), passed-none which low at.marks, λ key marked. inr marked)
+pub walked-none : (which : Which) (low : ℕ) (at : HeldEnds) (count : Count) (was : Bool) → HasWalked which low low at at count count was (Nothing was)
+walked-none which low at count was = ([], (false, (refl, refl, refl), refl), passed-none which low at.ready.marks, λ key marked. inr marked)
 
 -- the next key was asked, and gave none
-pub walked-more : (which : Which) (low from key : ℕ) (old mid new : EndsSeat) (before c after : Count) (was busy here : Bool) → low ≤ from → from ≤ key → HasWalked which low from old mid before c was (Nothing busy) → NoneBetween which mid.marks from key → IsAskedAt mid.held new.held key c after (Nothing here) → SameBut key mid.marks new.marks → HasWalked which low (key + 1) old new before after was (Nothing (here || busy))
+pub walked-more : (which : Which) (low from key : ℕ) (old mid new : HeldEnds) (before c after : Count) (was busy here : Bool) → low ≤ from → from ≤ key → HasWalked which low from old mid before c was (Nothing busy) → NoneBetween which mid.ready.marks from key → IsAskedAt mid.held new.held key c after (Nothing here) → SameBut key mid.ready.marks new.ready.marks → HasWalked which low (key + 1) old new before after was (Nothing (here || busy))
 walked-more which low from key old mid new before c after was busy here above le walked none came same =
     let keys = walked.0 in
     let asked = walked.1 in (
@@ -211,21 +212,21 @@ walked-more which low from key old mid new before c after was busy here above le
         (mid.held, c, asked.0, here, asked.1, came, refl),
         ap (λ b. here || b) asked.2 ∙ sym (or-assoc here asked.0 was),
       ),
-      passed-key which low key keys old.marks (omega (arith, above, le)) (passed-to which low from key keys old.marks mid.marks walked.3 le walked.2 none),
-      stay-more key keys old.marks mid.marks new.marks walked.3 same,
+      passed-key which low key keys old.ready.marks (omega (arith, above, le)) (passed-to which low from key keys old.ready.marks mid.ready.marks walked.3 le walked.2 none),
+      stay-more key keys old.ready.marks mid.ready.marks new.ready.marks walked.3 same,
     )
 
 -- the next key was asked, and gave an envelope
-pub walked-given : (which : Which) (low from key high : ℕ) (old mid new : EndsSeat) (before c after : Count) (was busy : Bool) (v : Envelope) → low ≤ from → from ≤ key → key < high → HasWalked which low from old mid before c was (Nothing busy) → NoneBetween which mid.marks from key → IsAskedAt mid.held new.held key c after (Given key v) → HasWalked which low high old new before after was (Given key v)
+pub walked-given : (which : Which) (low from key high : ℕ) (old mid new : HeldEnds) (before c after : Count) (was busy : Bool) (v : Envelope) → low ≤ from → from ≤ key → key < high → HasWalked which low from old mid before c was (Nothing busy) → NoneBetween which mid.ready.marks from key → IsAskedAt mid.held new.held key c after (Given key v) → HasWalked which low high old new before after was (Given key v)
 walked-given which low from key high old mid new before c after was busy v above le less walked none came = (
   walked.0,
   record { middle = mid.held; count = c; busy = walked.1.0; earlier = walked.1.1; given = came },
-  passed-to which low from key walked.0 old.marks mid.marks walked.3 le walked.2 none,
+  passed-to which low from key walked.0 old.ready.marks mid.ready.marks walked.3 le walked.2 none,
   omega (arith, above, le),
   less,
 )
 
 -- no key is left
-pub walked-whole : (which : Which) (low from high : ℕ) (old new : EndsSeat) (before after : Count) (was busy : Bool) → from ≤ high → HasWalked which low from old new before after was (Nothing busy) → NoneBetween which new.marks from high → HasWalked which low high old new before after was (Nothing busy)
+pub walked-whole : (which : Which) (low from high : ℕ) (old new : HeldEnds) (before after : Count) (was busy : Bool) → from ≤ high → HasWalked which low from old new before after was (Nothing busy) → NoneBetween which new.ready.marks from high → HasWalked which low high old new before after was (Nothing busy)
 walked-whole which low from high old new before after was busy le walked none =
-    (walked.0, walked.1, passed-to which low from high walked.0 old.marks new.marks walked.3 le walked.2 none, walked.3)
+    (walked.0, walked.1, passed-to which low from high walked.0 old.ready.marks new.ready.marks walked.3 le walked.2 none, walked.3)

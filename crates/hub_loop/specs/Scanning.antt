@@ -25,14 +25,6 @@ abbrev pub IsServedMarked : List ℕ → Served → Type 0
 IsServedMarked marks (Given key v) = mark_of marks key ≡ 1
 IsServedMarked marks (Nothing busy) = Unit {0}
 
--- what a loop holds, and its marks
-pub record EndsSeat : Type 0 where
-  pub held : Slab Held
-  pub marks : List ℕ
-
-abbrev pub held_ends : HeldEnds → EndsSeat
-held_ends h = record { held = h.held; marks = h.ready.marks }
-
 -- a walk passes over each key from the one up to the other
 abbrev pub NoneBetween : Which → List ℕ → ℕ → ℕ → Type 0
 NoneBetween Marked marks low high = ClearBetween marks low high
@@ -57,11 +49,11 @@ CameTo keys old new before after was (Given key v) = HasGiven keys old new befor
 CameTo keys old new before after was (Nothing busy) = (here : Bool) × AskedAll keys old new before after here × (busy ≡ (here || was))
 
 -- The keys of a range were walked, up to the one whose end gave an envelope.
-abbrev pub HasWalked : Which → ℕ → ℕ → EndsSeat → EndsSeat → Count → Count → Bool → Served → Type 0
+abbrev pub HasWalked : Which → ℕ → ℕ → HeldEnds → HeldEnds → Count → Count → Bool → Served → Type 0
 HasWalked which low high old new before after was (Given key v) =
-    (keys : List ℕ) × CameTo keys old.held new.held before after was (Given key v) × HasPassedKeys which low key keys old.marks × (low ≤ key) × (key < high)
+    (keys : List ℕ) × CameTo keys old.held new.held before after was (Given key v) × HasPassedKeys which low key keys old.ready.marks × (low ≤ key) × (key < high)
 HasWalked which low high old new before after was (Nothing busy) =
-    (keys : List ℕ) × CameTo keys old.held new.held before after was (Nothing busy) × HasPassedKeys which low high keys old.marks × StayMarked keys old.marks new.marks
+    (keys : List ℕ) × CameTo keys old.held new.held before after was (Nothing busy) × HasPassedKeys which low high keys old.ready.marks × StayMarked keys old.ready.marks new.ready.marks
 
 -- this key stands before the one whose end gave an envelope; where none gave one each does
 abbrev pub IsReachedBefore : ℕ → ℕ → Served → Type 0

@@ -20,11 +20,10 @@ ghost use Rattle.std.specs.Prelude.{
   vec_capacity,
 };
 ghost use Rattle.std.specs.VecDeque.{deque_len};
-ghost use Rattle.hub_loop.specs.Adopting.{closed_of};
 ghost use Rattle.hub_loop.specs.Closing.{HasRoom, IsOpenClosed};
 ghost use Rattle.hub_loop.specs.Ending.{found_of, grave_ends, open_ends, open_number, still_open};
-ghost use Rattle.hub_loop.specs.Looping.{holding_of};
 ghost use Rattle.hub_loop.specs.Noticing.{ports_in};
+ghost use Rattle.hub_loop.specs.States.{closed_of, holding_of};
 ghost use Rattle.hub_loop.specs.Telling.{NoticesMore};
 ghost use Rattle.hub_loop.specs.declared.ending.StillOpen.TheVariants.{
   Held as HeldOpen,

@@ -5,7 +5,7 @@ ghost use Rattle.slab.specs.Slab.{HasRoomFor, SameValues};
 ghost use Rattle.hub_loop.specs.Adopting.{HoldsMore};
 ghost use Rattle.hub_loop.specs.Holding.{end_held};
 ghost use Rattle.hub_loop.specs.Looking.{HoldsNoEnd};
-ghost use Rattle.hub_loop.specs.Marking.{AreMarked};
+ghost use Rattle.hub_loop.specs.Marking.{MarksKept};
 ghost use Rattle.hub_loop.specs.Reaching.{AreReached};
 ghost use Rattle.hub_ready.specs.Marking.{HasBit};
 
@@ -64,8 +64,7 @@ impl HeldEnds {
         requires room { HasRoomFor self.old.held 1 }
         requires bit { HasBit self.old.ready.marks self.old.held.vacant_key }
         ensures held { HoldsMore self.old.held self.new.held held }
-        ensures marked { AreMarked self.old.held self.old.ready self.new.held self.new.ready }
-        ensures next { self.new.next ≡ self.old.next }
+        ensures marks { MarksKept self.old self.new }
     {
         let end = held.as_end();
         let key = self.held.insert_reserved(held);
@@ -79,8 +78,7 @@ impl HeldEnds {
         ensures ok { OnOk result (HoldsMore self.old.held self.new.held held) }
         ensures back { IfErr result (λ refused. refused.1 ≡ held) }
         ensures err { OnErr result (SameValues self.old.held self.new.held) }
-        ensures marked { AreMarked self.old.held self.old.ready self.new.held self.new.ready }
-        ensures next { self.new.next ≡ self.old.next }
+        ensures marks { MarksKept self.old self.new }
     {
         if self.make_room(held.as_end()).is_err() {
             return Err((LoopError::OutOfMemory, held));
@@ -98,8 +96,7 @@ impl HeldEnds {
         ensures room { OnOk result (HasRoomFor self.new.held 1) }
         ensures bit { OnOk result (HasBit self.new.ready.marks self.new.held.vacant_key) }
         ensures held { SameValues self.old.held self.new.held }
-        ensures marked { AreMarked self.old.held self.old.ready self.new.held self.new.ready }
-        ensures next { self.new.next ≡ self.old.next }
+        ensures marks { MarksKept self.old self.new }
     {
         self.held.reserve(1)?;
         let key = self.held.vacant_key();
@@ -116,7 +113,7 @@ impl HeldEnds {
         ensures none { IfNone result (self.new.held ≡ self.old.held) }
         ensures unchanged { IfNone result (self.new ≡ self.old) }
         ensures missing { IfNone result (HoldsNoEnd self.old.held end) }
-        ensures next { self.new.next ≡ self.old.next }
+        ensures marks { MarksKept self.old self.new }
     {
         let key = self.find_end(Sought::End, end)?;
         self.ready.forget(end, key);

@@ -5,7 +5,7 @@ ghost use Rattle.std.specs.Option.{option_copied, option_copied_mut};
 ghost use Rattle.slab.specs.Slab.{get};
 ghost use Rattle.hub_loop.specs.Holding.{ends_held};
 ghost use Rattle.hub_loop.specs.Looking.{IsEndOf, IsFound, IsLineTo, IsSlotOf};
-ghost use Rattle.hub_loop.specs.Marking.{AreMarked};
+ghost use Rattle.hub_loop.specs.Marking.{MarksKept};
 ghost use Rattle.hub_loop.specs.Starting.{IsStartedAs};
 ghost use Rattle.hub_ready.specs.Marking.{mark_of, ClearBetween, IsFirstFrom};
 
@@ -117,8 +117,7 @@ impl HeldEnds {
     /// is held.
     pub(crate) fn start_kind(&mut self, kind: Sought, end: EndId) -> bool
         ensures held { IsStartedAs kind self.old.held self.new.held end result }
-        ensures marked { AreMarked self.old.held self.old.ready self.new.held self.new.ready }
-        ensures next { self.new.next ≡ self.old.next }
+        ensures marks { MarksKept self.old self.new }
     {
         let Some(key) = self.find_end(kind, end) else {
             return false;

@@ -6,7 +6,6 @@ ghost use Rattle.hub_loop.specs.Scanning.{
   AreEachServed,
   AreMarkedServed,
   HasWalked,
-  held_ends,
   IsListedAt,
   IsServed,
   IsServedMarked,
@@ -134,7 +133,7 @@ impl HeldEnds {
         steps: &mut Steps<L>,
     ) -> Served
         requires { (low ≤ high) × (high ≤ self.old.held.capacity) }
-        ensures walked { HasWalked which low high (held_ends self.old) (held_ends self.new)
+        ensures walked { HasWalked which low high self.old self.new
             steps.old steps.new was result }
         ensures given { IsServedMarked self.new.ready.marks result }
         ensures next { self.new.next ≡ next_after self.old.next result }

@@ -2,8 +2,9 @@ use Rattle.std.proofs.Common.{◌∙◌, ◌++◌, ap, subst, sym, rules}
 use Rattle.std.specs.List.Sorted.{IsPermutation}
 use Rattle.std.proofs.lemmas.List.Sorted.{IsNonDecreasingBy-from_sort_by_key}
 use Rattle.hub_loop.specs.Ending.{closing_ends, grave_ends, open_ends, open_number, still_open}
-use Rattle.hub_loop.specs.Looping.{holding_of, HasEnded}
+use Rattle.hub_loop.specs.Looping.{HasEnded}
 use Rattle.hub_loop.specs.Noticing.{ports_in}
+use Rattle.hub_loop.specs.States.{holding_of}
 use Rattle.hub_loop.specs.Telling.{NoticesMore}
 use Rattle.hub_loop.proofs.Notices.{ended-begins, ended-begun, on-err, same-loop}
 use Rattle.hub_loop.proofs.event_loop.EventLoop.begin_closing.Goals as goal
@@ -12,7 +13,7 @@ pub returns-in-Some-clause-ok : goal.returns-in-Some-clause-ok
 returns-in-Some-clause-ok g c =
     let old = c.args.self.now in
     let is = sym (ap (λ l. l.closing) c.self.view_is) ∙ sym c.take.ensures.value ∙ c.in-Some.is in
-    ended-begun c.in-Some.closing old.holding.closed.graves (still_open old.holding.held old.fetched old.kept) old.holding.closed.noticed old.closing is
+    ended-begun c.in-Some.closing old.holding.closed.graves (still_open old.holding.ends.held old.fetched old.kept) old.holding.closed.noticed old.closing is
 
 pub returns-in_err-opened-clause-err : goal.returns-in_err-opened-clause-err
 returns-in_err-opened-clause-err g c =
