@@ -363,7 +363,7 @@ queue_held e old new end (q, is, (h, same, more, closed)) =
     omega (arith, a, b, c, d)
 
 no_queue_held : (e : ℕ) (old new : HoldingState) (end : EndId) → IsFetched false old new end → held_in new.ends.held e ≡ held_in old.ends.held e
-no_queue_held e old new end (inl same) = count_same e old.ends.held new.ends.held same.0
+no_queue_held e old new end (inl same) = count_same e old.ends.held new.ends.held same.held
 no_queue_held e old new end (inr (q, is, (error, unfit, refused, same, buried))) = count_same e old.ends.held new.ends.held same
 
 pub fetched_accounts : (before now : AgentState) (old mid : HoldingState) (end : EndId) (started : Bool) → before.ends ≡ old.ends.held → IsFetched true old mid end → StartsClient mid.ends.held now.ends end started

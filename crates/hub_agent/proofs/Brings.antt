@@ -113,7 +113,7 @@ one_adopted e p old new before after (inr (error, unfit, received, same, buried,
 all_adopted : (e : ℕ) (ps : List PortSeat) (old new : HoldingState) (before after : List EndId) → AreAdopted ps old new before after
     → held_in new.ends.held e + times e after ≡ held_in old.ends.held e + times e before + times e (ends_of ps)
 all_adopted e [] old new before after (same, is) =
-    let held = count_same e old.ends.held new.ends.held same.0 in
+    let held = count_same e old.ends.held new.ends.held same.held in
     let missing = ap (times e) is in
     omega (arith, held, missing)
 all_adopted e (p ∷ ps) old new before after (middle, between, one, rest) =

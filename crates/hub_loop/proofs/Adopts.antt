@@ -26,20 +26,24 @@ buried-after p old mid new same buried =
 one-after : (p : PortSeat) (old mid new : HoldingState) (before after : List EndId) → SameStored old mid → IsOneAdopted p mid new before after → IsOneAdopted p old new before after
 one-after p old mid new before after same one =
     ⊎_elim
-    (λ (held : _). inl (held.0, held.1, holds-after old.ends.held mid.ends.held new.ends.held _ same.0 held.2, closed-after old.closed mid.closed new.closed same.1 held.3, held.4))
-    (λ (unfit : _). inr (unfit.0, unfit.1, unfit.2, (λ k. unfit.3 k ∙ same.0 k), buried-after p old.closed mid.closed new.closed same.1 unfit.4, unfit.5))
+    (λ (held : _). inl (held.0, held.1, holds-after old.ends.held mid.ends.held new.ends.held _ same.held held.2, closed-after old.closed mid.closed new.closed same.closed held.3, held.4))
+    (λ (unfit : _). inr (unfit.0, unfit.1, unfit.2, (λ k. unfit.3 k ∙ same.held k), buried-after p old.closed mid.closed new.closed same.closed unfit.4, unfit.5))
     one
+
+pub stored-same : (s : HoldingState) → SameStored s s
+stored-same s = record { held = λ k. refl; closed = (refl, refl) }
 
 -- one port more
 pub adopts-more : (ps : List PortSeat) (p : PortSeat) (old mid new : HoldingState) (a b c : List EndId) → AreAdopted ps old mid a b → IsOneAdopted p mid new b c → AreAdopted (ps ++ p ∷ []) old new a c
 adopts-more [] p old mid new a b c did one =
-    (new, c, one-after p old mid new a c did.0 (subst (λ x. IsOneAdopted p mid new x c) did.1 one), (((λ k. refl), (refl, refl)), refl))
+    (new, c, one-after p old mid new a c did.0 (subst (λ x. IsOneAdopted p mid new x c) did.1 one), (stored-same new, refl))
 adopts-more (q ∷ ps) p old mid new a b c did one =
     (did.0, did.1, did.2, adopts-more ps p did.0 mid new did.1 b c did.3 one)
 
 -- the same is held afterwards
 pub adopts-same : (ps : List PortSeat) (old mid new : HoldingState) (a b : List EndId) → AreAdopted ps old mid a b → SameStored mid new → AreAdopted ps old new a b
-adopts-same [] old mid new a b did same = (((λ k. same.0 k ∙ did.0.0 k), closed-after old.closed mid.closed new.closed did.0.1 same.1), did.1)
+adopts-same [] old mid new a b did same =
+    (record { held = λ k. same.held k ∙ did.0.held k; closed = closed-after old.closed mid.closed new.closed did.0.closed same.closed }, did.1)
 adopts-same (q ∷ ps) old mid new a b did same =
     (did.0, did.1, did.2, adopts-same ps did.0 mid new did.1 b did.3 same)
 
@@ -88,6 +92,3 @@ fetched-kept q back old at rest new end was is taken same more =
       | inl none ↦ inr (q, is, subst (λ l. IsPermutation (q ∷ l) new) (none ∙ was) behind)
       | inr moved ↦ inl (IsPermutation-trans old (q ∷ rest) new (subst (λ l. IsPermutation l (q ∷ rest)) was moved) behind)
     ]
-
-pub stored-same : (s : HoldingState) → SameStored s s
-stored-same s = ((λ k. refl), (refl, refl))

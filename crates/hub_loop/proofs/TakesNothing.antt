@@ -184,7 +184,7 @@ one-kept p old new before after key h one there =
     one
 
 adopted-kept : (ps : List PortSeat) (old new : HoldingState) (before after : List EndId) (key : ℕ) (h : Held) → AreAdopted ps old new before after → get old.ends.held key ≡ Some h → get new.ends.held key ≡ Some h
-adopted-kept [] old new before after key h did there = did.0.0 key ∙ there
+adopted-kept [] old new before after key h did there = did.0.held key ∙ there
 adopted-kept (p ∷ ps) old new before after key h did there =
     adopted-kept ps did.0 new did.1 after key h did.3 (one-kept p old did.0 before did.1 key h did.2 there)
 

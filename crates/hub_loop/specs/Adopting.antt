@@ -29,8 +29,9 @@ abbrev pub SameClosed : ClosedState → ClosedState → Type 0
 SameClosed old new = (new.graves ≡ old.graves) × (new.noticed ≡ old.noticed)
 
 -- the same is held, and the same was closed
-abbrev pub SameStored : HoldingState → HoldingState → Type 0
-SameStored old new = SameValues old.ends.held new.ends.held × SameClosed old.closed new.closed
+pub record SameStored (old new : HoldingState) : Type 0 where
+  pub held : SameValues old.ends.held new.ends.held
+  pub closed : SameClosed old.closed new.closed
 
 -- the adoption was refused for good
 abbrev pub IsUnfit : AdoptError → Type 0

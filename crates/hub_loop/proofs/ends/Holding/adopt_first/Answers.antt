@@ -19,7 +19,7 @@ returns-in-Ok-clause-adopted g c =
     let p = c.unwrap-arrived.result in
     let q = c.in-Ok.port in
     let same = c.prepare.ensures.same in
-    (p, search rules, inl (q, c.in-Ok.ensures, holds-after c.args.self.now.ends.held c.prepare.new.self.ends.held c.put.new.self.held (Port q) same.0 c.put.ensures.held, same.1, search rules))
+    (p, search rules, inl (q, c.in-Ok.ensures, holds-after c.args.self.now.ends.held c.prepare.new.self.ends.held c.put.new.self.held (Port q) same.held c.put.ensures.held, same.closed, search rules))
 
 pub returns-in-Ok-clause-marks : goal.returns-in-Ok-clause-marks
 returns-in-Ok-clause-marks g c = kept_after c.prepare.ensures.marks c.put.ensures.marks
@@ -39,4 +39,4 @@ returns-in-Err-TooManyMoves-default-clause-adopted g c =
     let closed = c.close_arrived-grave in
     let buried = subst (λ q. IsPortBuried q (closed_of mid.closed) (closed_of c.bury.new.self)) came (closed.result.0, closed.result.1, closed.ensures.grave, closed.ensures.told, c.bury.ensures.graves, c.bury.ensures.noticed) in
     let same = c.prepare.ensures.same in
-    (p, search rules, inr (error, unfit, received, same.0, buried-after p (closed_of old.closed) (closed_of mid.closed) (closed_of c.bury.new.self) same.1 buried, search rules))
+    (p, search rules, inr (error, unfit, received, same.held, buried-after p (closed_of old.closed) (closed_of mid.closed) (closed_of c.bury.new.self) same.closed buried, search rules))

@@ -6,7 +6,7 @@ pub returns-in-Ok-adopt_handed-clause-ok : goal.returns-in-Ok-adopt_handed-claus
 returns-in-Ok-adopt_handed-clause-ok g c =
     let held = c.in-Ok-adopt_handed.held in
     let same = c.prepare.ensures.same in
-    (held, c.in-Ok-adopt_handed.ensures.ok, holds-after c.args.self.now.ends.held c.prepare.new.self.ends.held c.put.new.self.held held same.0 c.put.ensures.held, same.1)
+    (held, c.in-Ok-adopt_handed.ensures.ok, holds-after c.args.self.now.ends.held c.prepare.new.self.ends.held c.put.new.self.held held same.held c.put.ensures.held, same.closed)
 
 pub returns-in-Ok-adopt_handed-clause-marks : goal.returns-in-Ok-adopt_handed-clause-marks
 returns-in-Ok-adopt_handed-clause-marks g c = kept_after c.prepare.ensures.marks c.put.ensures.marks

@@ -1,5 +1,4 @@
 use Rattle.std.proofs.Common.{◌≡◌, subst, sym}
-use Rattle.hub_loop.specs.Marking.{MarksKept}
 use Rattle.hub_loop.specs.States.{holding_of}
 use Rattle.hub_loop.proofs.Closes.{if-none}
 use Rattle.hub_loop.proofs.event_loop.EventLoop.close.Goals as goal
@@ -16,9 +15,3 @@ returns-in_err-held-clause-none g c =
       fetched = inside.fetched.items;
       closing = inside.closing;
     }) (sym c.in_err-held.ensures.unchanged) (sym c.self.view_is)))
-
-pub returns-clause-marks : goal.returns-clause-marks
-returns-clause-marks g c = subst (λ l. MarksKept l.holding.ends c.release.new.self) c.self.view_is c.release.ensures.marks
-
-pub returns-in_err-held-clause-marks : goal.returns-in_err-held-clause-marks
-returns-in_err-held-clause-marks g c = subst (λ l. MarksKept l.holding.ends c.release.new.self) c.self.view_is c.release.ensures.marks

@@ -41,19 +41,6 @@ returns-in-Ok-clause-ok g c =
     subst (λ l. IsFetched is_held l.holding (holding_of new) c.args.end) c.self.view_is
     (fetched is_held c.in-Some.queue (holding_of old) (holding_of new) c.args.end c.in-Some.ensures.queue c.in-Ok.ensures.ok)
 
-pub returns-in-Ok-clause-marks : goal.returns-in-Ok-clause-marks
-returns-in-Ok-clause-marks g c =
-    subst (λ l. MarksKept l.holding.ends c.adopt_queue.new.self.ends) c.self.view_is c.adopt_queue.ensures.marks
-
-pub returns-in-Err-clause-err : goal.returns-in-Err-clause-err
-returns-in-Err-clause-err g c =
-    let new = c.adopt_queue.new.self in
-    subst (λ l. SameStored l.holding (holding_of new)) c.self.view_is c.in-Err.ensures.err
-
-pub returns-in-Err-clause-marks : goal.returns-in-Err-clause-marks
-returns-in-Err-clause-marks g c =
-    subst (λ l. MarksKept l.holding.ends c.adopt_queue.new.self.ends) c.self.view_is c.adopt_queue.ensures.marks
-
 pub returns-in-Err-clause-kept : goal.returns-in-Err-clause-kept
 returns-in-Err-clause-kept g c =
     let new = c.push_reserved.new.self.items in

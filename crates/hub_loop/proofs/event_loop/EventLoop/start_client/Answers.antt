@@ -1,5 +1,4 @@
 use Rattle.std.proofs.Common.{subst}
-use Rattle.hub_loop.specs.Marking.{MarksKept}
 use Rattle.hub_loop.specs.Starting.{StartsClient}
 use Rattle.hub_loop.proofs.Starts.{starts-client}
 use Rattle.hub_loop.proofs.event_loop.EventLoop.start_client.Goals as goal
@@ -8,6 +7,3 @@ pub returns-clause-started : goal.returns-clause-started
 returns-clause-started g c =
     subst (λ l. StartsClient l.holding.ends.held c.start_kind.new.self.held c.args.end c.start_kind.result) c.self.view_is
     (starts-client c.self.inside.holding.ends.held c.start_kind.new.self.held c.args.end c.start_kind.result c.start_kind.ensures.held)
-
-pub returns-clause-marks : goal.returns-clause-marks
-returns-clause-marks g c = subst (λ l. MarksKept l.holding.ends c.start_kind.new.self) c.self.view_is c.start_kind.ensures.marks
