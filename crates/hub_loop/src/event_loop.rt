@@ -41,13 +41,13 @@ ghost use Rattle.hub_loop.specs.Resting.{Rests};
 ghost use Rattle.hub_loop.specs.TakingNothing.{Gave, TookNothingBut};
 ghost use Rattle.hub_loop.specs.declared.handler.Turn.TheVariants.{Ending};
 
-use crate::closing::Shutdown;
 use crate::delivery::Undelivered;
 use crate::ends::Holding;
 use crate::error::LoopError;
 use crate::handler::{Checkpoint, Handler, Turn};
 use crate::held::Held;
 use crate::serving::Served;
+use crate::sweeping::Shutdown;
 use hub_clients::{Directory, HandedQueue};
 use hub_envelope::{AgentId, EndId, OutOfMemory};
 use hub_life::Order;
