@@ -12,9 +12,8 @@ use Rattle.hub_queue.specs.Counting.{Count}
 use Rattle.hub_queue.specs.Taking.{TakerSeat, IsTaken}
 use Rattle.hub_loop.specs.Asking.{Leaves, IsAsked, IsHeldAsked}
 use Rattle.hub_loop.specs.Holding.{seat_of}
-use Rattle.hub_loop.specs.Popping.{is_seat_enabled, is_enabled}
+use Rattle.hub_loop.specs.Turning.{is_seat_enabled, is_enabled, IsDue}
 use Rattle.hub_loop.specs.Serving.{IsSlotAsked, IsAskedAt, AskedAll, HasOrder, InOrder}
-use Rattle.hub_loop.specs.Turning.{IsDue}
 use Rattle.hub_loop.specs.declared.held.Held.{Held}
 use Rattle.hub_loop.specs.declared.serving.Served.TheVariants.{Nothing}
 use Rattle.hub_loop.specs.States.{DeliveryState, HoldingState}

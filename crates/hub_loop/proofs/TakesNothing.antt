@@ -15,8 +15,7 @@ use Rattle.hub_loop.specs.Asking.{Leaves, IsAsked, IsHeldAsked}
 use Rattle.hub_loop.specs.Delivering.{IsDelivered}
 use Rattle.hub_loop.specs.Holding.{seat_of, with_seat}
 use Rattle.hub_loop.specs.Serving.{served_by, IsSlotAsked, IsAskedAt, AskedAll, HasGiven}
-use Rattle.hub_loop.specs.TakingNothing.{got_of, TookNothing, SeatTookNothing, HeldTookNothing, SlotTookNothing, TookNothingBut, Gave}
-use Rattle.hub_loop.specs.Turning.{IsDue, IsTurn, TurnState}
+use Rattle.hub_loop.specs.Turning.{got_of, TookNothing, SeatTookNothing, HeldTookNothing, SlotTookNothing, TookNothingBut, Gave, IsDue, IsTurn, TurnState}
 use Rattle.hub_loop.specs.declared.held.Held.{Held}
 use Rattle.hub_loop.specs.States.{DeliveryState, HoldingState}
 use Rattle.hub_loop.specs.declared.serving.Served.TheVariants.{Given, Nothing}

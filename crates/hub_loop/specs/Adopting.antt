@@ -18,7 +18,7 @@ use Rattle.hub_loop.specs.declared.closed.ClosedPort.{ClosedPort}
 use Rattle.hub_loop.specs.declared.held.Held.{Held}
 use Rattle.hub_loop.specs.declared.held.Held.TheVariants.{Port, Client, Worker}
 use Rattle.hub_loop.specs.States.{ClosedState, HoldingState, ReceivingState}
-use Rattle.hub_loop.specs.Telling.{IsTold}
+use Rattle.hub_loop.specs.Noticing.{IsTold}
 
 -- What is held grew by this, under a key where nothing was held.
 abbrev pub HoldsMore : Slab Held → Slab Held → Held → Type 0

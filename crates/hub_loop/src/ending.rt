@@ -31,9 +31,8 @@ ghost use Rattle.hub_loop.specs.Ending.{
   swept_ends,
 };
 ghost use Rattle.hub_loop.specs.Looping.{HasEnded, HasPaused};
-ghost use Rattle.hub_loop.specs.Noticing.{ports_in};
+ghost use Rattle.hub_loop.specs.Noticing.{ports_in, NoticesMore};
 ghost use Rattle.hub_loop.specs.States.{closed_of, holding_of};
-ghost use Rattle.hub_loop.specs.Telling.{NoticesMore};
 ghost use Rattle.hub_loop.specs.declared.ending.StillOpen.TheVariants.{
   Held as HeldOpen,
   Queue as QueueOpen,

@@ -36,9 +36,7 @@ ghost use Rattle.hub_loop.specs.Looping.{
   TakesUp,
 };
 ghost use Rattle.hub_loop.specs.Marking.{AreNewMarked, MarksKept};
-ghost use Rattle.hub_loop.specs.Popping.{PopsEach};
-ghost use Rattle.hub_loop.specs.Resting.{Rests};
-ghost use Rattle.hub_loop.specs.TakingNothing.{Gave, TookNothingBut};
+ghost use Rattle.hub_loop.specs.Turning.{PopsEach, Rests, Gave, TookNothingBut};
 ghost use Rattle.hub_loop.specs.declared.handler.Turn.TheVariants.{Ending};
 
 use crate::delivery::Undelivered;

@@ -2,7 +2,7 @@
 ghost use Rattle.std.specs.Prelude.{◌≡◌, ◌<◌, ◌≤◌, length, IfNone, IfSome, true};
 ghost use Rattle.slab.specs.Slab.{get};
 ghost use Rattle.hub_ready.specs.Marking.{SameBut};
-ghost use Rattle.hub_loop.specs.Scanning.{
+ghost use Rattle.hub_loop.specs.Serving.{
   AreEachServed,
   AreMarkedServed,
   HasWalked,
@@ -10,8 +10,10 @@ ghost use Rattle.hub_loop.specs.Scanning.{
   IsServed,
   IsServedMarked,
   NoneBetween,
+  next_after,
+  served_by,
+  IsAskedAt,
 };
-ghost use Rattle.hub_loop.specs.Serving.{next_after, served_by, IsAskedAt};
 
 use crate::ends::HeldEnds;
 use crate::finding::next_marked;

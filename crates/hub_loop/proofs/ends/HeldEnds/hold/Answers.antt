@@ -1,4 +1,4 @@
-use Rattle.hub_loop.proofs.Adopts.{holds-after}
+use Rattle.hub_loop.proofs.Delivers.{holds-after}
 use Rattle.hub_loop.proofs.Marks.{kept_after}
 use Rattle.hub_loop.proofs.ends.HeldEnds.hold.Goals as goal
 

@@ -4,8 +4,7 @@ use Rattle.slab.specs.Slab.{Slab, get}
 use Rattle.hub_ready.specs.declared.ready.Ready.{Ready}
 use Rattle.hub_ready.specs.Marking.{HasBit}
 use Rattle.hub_loop.specs.declared.held.Held.{Held}
-use Rattle.hub_loop.proofs.Marks.{marked-as, room-grown}
-use Rattle.hub_loop.proofs.Reaches.{same-held}
+use Rattle.hub_loop.proofs.Marks.{marked-as, room-grown, same-held}
 use Rattle.hub_loop.proofs.ends.HeldEnds.make_room.Goals as goal
 
 pub invariant_of-self : goal.invariant_of-self

@@ -1,8 +1,7 @@
 use Rattle.std.proofs.Common.{◌≡◌, ◌∙◌, ap, subst, sym, arith, rules}
 use Rattle.hub_ready.specs.Marking.{HasBit}
 use Rattle.hub_loop.specs.Holding.{end_held}
-use Rattle.hub_loop.proofs.Marks.{marked-but, same-marks}
-use Rattle.hub_loop.proofs.Reaches.{all-but, is-marked, moves-other, moves-same, is-line}
+use Rattle.hub_loop.proofs.Marks.{marked-but, same-marks, all-but, is-marked, moves-other, moves-same, is-line}
 use Rattle.hub_loop.proofs.ends.HeldEnds.put.Goals as goal
 
 pub invariant_of-self : goal.invariant_of-self

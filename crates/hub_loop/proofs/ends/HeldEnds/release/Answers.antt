@@ -1,7 +1,6 @@
 use Rattle.std.proofs.Common.{◌≡◌, None, arith, refl}
 use Rattle.slab.specs.Slab.{get}
-use Rattle.hub_loop.proofs.Marks.{kept_same, marked-but}
-use Rattle.hub_loop.proofs.Reaches.{all-but, moves-other, is-gone}
+use Rattle.hub_loop.proofs.Marks.{kept_same, marked-but, all-but, moves-other, is-gone}
 use Rattle.hub_loop.proofs.ends.HeldEnds.release.Goals as goal
 
 pub invariant_of-self : goal.invariant_of-self

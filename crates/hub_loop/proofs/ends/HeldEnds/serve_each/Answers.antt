@@ -1,9 +1,8 @@
 use Rattle.std.proofs.Common.{◌+◌, ◌∙◌, ap, arith, refl, subst}
-use Rattle.hub_loop.specs.Scanning.{AreMarkedServed, HasWalked}
-use Rattle.hub_loop.specs.Serving.{next_after}
+use Rattle.hub_loop.specs.Serving.{AreMarkedServed, HasWalked, next_after}
 use Rattle.hub_loop.specs.declared.serving.Served.TheVariants.{Nothing}
 use Rattle.hub_loop.specs.declared.serving.Which.TheVariants.{Each}
-use Rattle.hub_loop.proofs.Scans.{each-given, each-marked, each-none, each-walked}
+use Rattle.hub_loop.proofs.Serves.{each-given, each-marked, each-none, each-walked}
 use Rattle.hub_loop.proofs.ends.HeldEnds.serve_each.Goals as goal
 
 pub parts-init : goal.parts-init

@@ -1,7 +1,7 @@
 use Rattle.std.proofs.Common.{arith, refl, subst}
-use Rattle.hub_loop.specs.Scanning.{HasWalked}
+use Rattle.hub_loop.specs.Serving.{HasWalked}
 use Rattle.hub_loop.specs.declared.serving.Which.TheVariants.{Marked}
-use Rattle.hub_loop.proofs.Scans.{gathered, marked-ahead, marked-behind, Gathered}
+use Rattle.hub_loop.proofs.Serves.{gathered, marked-ahead, marked-behind, Gathered}
 use Rattle.hub_loop.proofs.ends.HeldEnds.serve_marked.Goals as goal
 
 pub returns-in-Nothing-clause-served : goal.returns-in-Nothing-clause-served

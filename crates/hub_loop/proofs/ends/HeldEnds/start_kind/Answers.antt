@@ -2,8 +2,7 @@ use Rattle.std.proofs.Common.{refl, rules}
 use Rattle.std.specs.Prelude.{IsSome}
 use Rattle.slab.specs.Slab.{get}
 use Rattle.hub_ready.specs.declared.ready.Ready.{Ready}
-use Rattle.hub_loop.proofs.Marks.{marked-lent}
-use Rattle.hub_loop.proofs.Reaches.{lent}
+use Rattle.hub_loop.proofs.Marks.{marked-lent, lent}
 use Rattle.hub_loop.proofs.ends.HeldEnds.start_kind.Goals as goal
 
 pub invariant_of-self : goal.invariant_of-self

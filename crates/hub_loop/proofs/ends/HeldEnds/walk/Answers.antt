@@ -1,6 +1,5 @@
 use Rattle.std.proofs.Common.{◌∙◌, ap, arith, refl, subst, sym}
-use Rattle.hub_loop.specs.Scanning.{HasWalked}
-use Rattle.hub_loop.specs.Serving.{next_after, IsAskedAt}
+use Rattle.hub_loop.specs.Serving.{HasWalked, next_after, IsAskedAt}
 use Rattle.hub_loop.proofs.Serves.{given-at, walked-given, walked-more, walked-none, walked-whole}
 use Rattle.hub_loop.proofs.ends.HeldEnds.walk.Goals as goal
 

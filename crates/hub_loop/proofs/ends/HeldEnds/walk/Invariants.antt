@@ -1,5 +1,5 @@
 use Rattle.std.proofs.Common.{◌≡◌, ◌≤◌, ◌-◌}
-use Rattle.hub_loop.specs.Scanning.{HasWalked}
+use Rattle.hub_loop.specs.Serving.{HasWalked}
 use Rattle.hub_loop.specs.declared.serving.Served.TheVariants.{Nothing}
 use Rattle.hub_loop.proofs.ends.HeldEnds.walk.Given as goal
 

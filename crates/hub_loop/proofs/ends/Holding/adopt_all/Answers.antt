@@ -2,7 +2,7 @@ use Rattle.std.proofs.Common.{◌∙◌, sym, subst, Ok}
 use Rattle.std.specs.declared.alloc.AllocError.{AllocError}
 use Rattle.hub_loop.specs.Adopting.{IsFirstAdopted}
 use Rattle.hub_loop.specs.States.{holding_of}
-use Rattle.hub_loop.proofs.Adopts.{partly-more, partly-same, all-done}
+use Rattle.hub_loop.proofs.Delivers.{partly-more, partly-same, all-done}
 use Rattle.hub_loop.proofs.Marks.{kept_after}
 use Rattle.hub_loop.proofs.ends.Holding.adopt_all.Goals as goal
 

@@ -4,7 +4,7 @@ use Rattle.hub_loop.specs.States.{closed_of}
 use Rattle.hub_loop.specs.declared.held.Held.TheVariants.{Port}
 use Rattle.hub_ports.specs.Adopting.{IsReceived}
 use Rattle.std.specs.Prelude.{Err}
-use Rattle.hub_loop.proofs.Adopts.{buried-after, holds-after}
+use Rattle.hub_loop.proofs.Delivers.{buried-after, holds-after}
 use Rattle.hub_loop.proofs.Marks.{kept_after, kept_same}
 use Rattle.hub_loop.proofs.ends.Holding.adopt_first.Goals as goal
 

@@ -3,10 +3,9 @@ use Rattle.std.specs.List.Sorted.{IsPermutation}
 use Rattle.std.proofs.lemmas.List.Sorted.{IsNonDecreasingBy-from_sort_by_key}
 use Rattle.hub_loop.specs.Ending.{closing_ends, grave_ends, open_ends, open_number, still_open}
 use Rattle.hub_loop.specs.Looping.{HasEnded}
-use Rattle.hub_loop.specs.Noticing.{ports_in}
+use Rattle.hub_loop.specs.Noticing.{ports_in, NoticesMore}
 use Rattle.hub_loop.specs.States.{holding_of}
-use Rattle.hub_loop.specs.Telling.{NoticesMore}
-use Rattle.hub_loop.proofs.Notices.{ended-begins, ended-begun, on-err, same-loop}
+use Rattle.hub_loop.proofs.Endings.{ended-begins, ended-begun, on-err, same-loop}
 use Rattle.hub_loop.proofs.event_loop.EventLoop.begin_closing.Goals as goal
 
 pub returns-in-Some-clause-ok : goal.returns-in-Some-clause-ok

@@ -1,8 +1,7 @@
 use Rattle.std.proofs.Common.{◌∙◌, inr, refl, sym, ap, subst}
 use Rattle.hub_loop.specs.Ending.{closing_ends, still_open, swept_ends}
 use Rattle.hub_loop.specs.Looping.{HasEnded}
-use Rattle.hub_loop.proofs.Closings.{all-swept}
-use Rattle.hub_loop.proofs.Notices.{ended-further}
+use Rattle.hub_loop.proofs.Endings.{all-swept, ended-further}
 use Rattle.hub_loop.proofs.event_loop.EventLoop.end.Goals as goal
 
 pub returns-in-Ok-finish-clause-ok : goal.returns-in-Ok-finish-clause-ok

@@ -3,9 +3,9 @@ use Rattle.hub_loop.specs.Adopting.{IsFetched, KeepsFetched, SameStored}
 use Rattle.hub_loop.specs.Marking.{MarksKept}
 use Rattle.hub_loop.specs.States.{holding_of}
 use Rattle.std.specs.Prelude.{false}
-use Rattle.hub_loop.proofs.Adopts.{fetched, fetched-kept, fetched-same, stored-same}
+use Rattle.hub_loop.proofs.Delivers.{fetched, fetched-kept, fetched-same, stored-same}
 use Rattle.hub_loop.proofs.Marks.{kept_same}
-use Rattle.hub_loop.proofs.Notices.{on-err}
+use Rattle.hub_loop.proofs.Endings.{on-err}
 use Rattle.hub_loop.proofs.event_loop.EventLoop.fetch.Goals as goal
 
 pub returns-in_err-reserve-clause-err : goal.returns-in_err-reserve-clause-err

@@ -1,6 +1,6 @@
 use Rattle.std.proofs.Common.{subst}
 use Rattle.hub_loop.specs.Starting.{StartsClient}
-use Rattle.hub_loop.proofs.Starts.{starts-client}
+use Rattle.hub_loop.proofs.Looks.{starts-client}
 use Rattle.hub_loop.proofs.event_loop.EventLoop.start_client.Goals as goal
 
 pub returns-clause-started : goal.returns-clause-started

@@ -1,6 +1,6 @@
 use Rattle.std.proofs.Common.{subst}
 use Rattle.hub_loop.specs.Starting.{StartsPort}
-use Rattle.hub_loop.proofs.Starts.{starts-port}
+use Rattle.hub_loop.proofs.Looks.{starts-port}
 use Rattle.hub_loop.proofs.event_loop.EventLoop.start_port.Goals as goal
 
 pub returns-clause-started : goal.returns-clause-started

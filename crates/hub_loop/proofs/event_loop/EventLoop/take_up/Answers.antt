@@ -5,7 +5,7 @@ use Rattle.hub_ready.specs.Finding.{HasStepped}
 use Rattle.hub_loop.specs.States.{holding_of}
 use Rattle.hub_loop.specs.Turning.{IsDue}
 use Rattle.hub_loop.proofs.Delivers.{due-given, due-kept, due-nothing}
-use Rattle.hub_loop.proofs.Scans.{no-steps}
+use Rattle.hub_loop.proofs.Serves.{no-steps}
 use Rattle.hub_loop.proofs.event_loop.EventLoop.take_up.Goals as goal
 use Rattle.hub_loop.proofs.event_loop.EventLoop.take_up.Goals.{in-Nothing, in-Given}
 
