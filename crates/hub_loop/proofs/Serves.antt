@@ -333,46 +333,48 @@ passed-behind old mid bound keys more marks looks within found ahead stay behind
       | inr before ↦ passed (unmarked-before keys more mid.marks marks key stay (behind key (omega arith) before))
     ]
 
+-- the ends, once the listener was looked at
+abbrev pub looked : (old : HeldEnds) (mid : Ready) (looks : List BoardStep) → Gathered old.ready mid looks → HeldEnds
+looked old mid looks found = record { held = old.held; next = old.next; ready = mid; lines = old.lines; room = old.room; reached = gathered old.held old.ready mid found.keeps found.listed old.reached }
+
 -- a marked end from the next key on gave an envelope
-pub marked-ahead : (high : ℕ) (old at new : HeldEnds) (heard hears : BoardSeat) (looks : List BoardStep) (before after : Count) (was : Bool) (served : Served) → at.held ≡ old.held → HasStepped heard hears looks → Gathered old.ready at.ready looks → HasWalked Marked old.next high at new before after was served → ((busy : Bool) → served ≡ Nothing busy → ⊥) → AreMarkedServed old new heard hears before after was served
-marked-ahead high old at new heard hears looks before after was (Given key v) same stepped found walked other = (
+pub marked-ahead : (high : ℕ) (old new : HeldEnds) (mid : Ready) (heard hears : BoardSeat) (looks : List BoardStep) (before after : Count) (was : Bool) (served : Served) → HasStepped heard hears looks → (found : Gathered old.ready mid looks) → HasWalked Marked old.next high (looked old mid looks found) new before after was served → ((busy : Bool) → served ≡ Nothing busy → ⊥) → AreMarkedServed old new heard hears before after was served
+marked-ahead high old new mid heard hears looks before after was (Given key v) stepped found walked other = (
   looks,
   stepped,
   walked.0,
-  subst (λ held. CameTo walked.0 held new.held before after was (Given key v)) same walked.1,
+  walked.1,
   λ end is.
       elim is [
-        | inl here ↦ asked-or-passed old.held old.ready at.ready end walked.0 looks old.reached found (walked.2 end here.0 here.1)
+        | inl here ↦ asked-or-passed old.held old.ready mid end walked.0 looks old.reached found (walked.2 end here.0 here.1)
         | inr wraps ↦ absurd (omega (arith, wraps.0, walked.3))
       ],
 )
-marked-ahead high old at new heard hears looks before after was (Nothing busy) same stepped found walked other = absurd (other busy refl)
+marked-ahead high old new mid heard hears looks before after was (Nothing busy) stepped found walked other = absurd (other busy refl)
 
 -- the marked ends from the next key on gave none, and then those before it were walked
-pub marked-behind : (high : ℕ) (old at then new : HeldEnds) (heard hears : BoardSeat) (looks : List BoardStep) (before c after : Count) (was busy : Bool) (served : Served) → at.held ≡ old.held → HasStepped heard hears looks → Gathered old.ready at.ready looks → length old.held.slots ≤ old.held.capacity → high ≡ old.held.capacity → HasWalked Marked old.next high at then before c was (Nothing busy) → HasWalked Marked 0 old.next then new c after busy served → AreMarkedServed old new heard hears before after was served
-marked-behind high old at then new heard hears looks before c after was busy (Given key v) same stepped found within whole first second = (
+pub marked-behind : (high : ℕ) (old then new : HeldEnds) (mid : Ready) (heard hears : BoardSeat) (looks : List BoardStep) (before c after : Count) (was busy : Bool) (served : Served) → HasStepped heard hears looks → (found : Gathered old.ready mid looks) → length old.held.slots ≤ old.held.capacity → high ≡ old.held.capacity → HasWalked Marked old.next high (looked old mid looks found) then before c was (Nothing busy) → HasWalked Marked 0 old.next then new c after busy served → AreMarkedServed old new heard hears before after was served
+marked-behind high old then new mid heard hears looks before c after was busy (Given key v) stepped found within whole first second = (
   looks,
   stepped,
   second.0 ++ first.0,
-  came-join first.0 second.0 old.held then.held new.held before c after was busy (Given key v)
-      (subst (λ held. CameTo first.0 held then.held before c was (Nothing busy)) same first.1) second.1,
+  came-join first.0 second.0 old.held then.held new.held before c after was busy (Given key v) first.1 second.1,
   λ end is.
       elim is [
         | inl here ↦ absurd (omega (arith, here.0, here.1, second.4))
         | inr wraps ↦
-            passed-behind old at.ready key first.0 second.0 then.ready.marks looks within found
-            (subst (λ n. AskedOrUnmarked old.next n first.0 at.ready.marks) whole first.2) first.3 second.2 end wraps.1
+            passed-behind old mid key first.0 second.0 then.ready.marks looks within found
+            (subst (λ n. AskedOrUnmarked old.next n first.0 mid.marks) whole first.2) first.3 second.2 end wraps.1
       ],
 )
-marked-behind high old at then new heard hears looks before c after was busy (Nothing now) same stepped found within whole first second = (
+marked-behind high old then new mid heard hears looks before c after was busy (Nothing now) stepped found within whole first second = (
   looks,
   stepped,
   second.0 ++ first.0,
-  came-join first.0 second.0 old.held then.held new.held before c after was busy (Nothing now)
-      (subst (λ held. CameTo first.0 held then.held before c was (Nothing busy)) same first.1) second.1,
+  came-join first.0 second.0 old.held then.held new.held before c after was busy (Nothing now) first.1 second.1,
   λ end is.
-      passed-behind old at.ready old.next first.0 second.0 then.ready.marks looks within found
-      (subst (λ n. AskedOrUnmarked old.next n first.0 at.ready.marks) whole first.2) first.3 second.2 end
+      passed-behind old mid old.next first.0 second.0 then.ready.marks looks within found
+      (subst (λ n. AskedOrUnmarked old.next n first.0 mid.marks) whole first.2) first.3 second.2 end
       (elim (cases_lt end old.next) [
         | inl less ↦ inr less
         | inr past ↦ inl past

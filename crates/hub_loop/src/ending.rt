@@ -196,7 +196,7 @@ fn count_found(kept: &Option<Undelivered>) -> usize
 }
 
 /// How many are to be closed.
-#[tactic(auto, using(crate::proofs::Closings::entries_held))]
+#[tactic(auto, using(crate::proofs::Endings::entries_held))]
 fn count_open(
     held: &Slab<Held>,
     fetched: &[HandedQueue],

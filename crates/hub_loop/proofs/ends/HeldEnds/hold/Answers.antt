@@ -9,4 +9,4 @@ pub returns-clause-ok : goal.returns-clause-ok
 returns-clause-ok c = holds-after c.args.self.now.held c.make_room.new.self.held c.put.new.self.held c.args.held c.make_room.ensures.held c.put.ensures.held
 
 pub returns-clause-marks : goal.returns-clause-marks
-returns-clause-marks c = kept_after c.make_room.ensures.marks c.put.ensures.marks
+returns-clause-marks c = kept_after c.make_room.ensures.marks (record { marked = c.put.ensures.marks.marked; next = c.put.ensures.marks.next })

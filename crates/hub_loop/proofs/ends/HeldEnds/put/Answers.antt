@@ -1,4 +1,4 @@
-use Rattle.std.proofs.Common.{◌≡◌, ◌∙◌, ap, subst, sym, arith, rules}
+use Rattle.std.proofs.Common.{◌≡◌, ◌∙◌, ap, subst, sym, arith, refl, rules}
 use Rattle.hub_ready.specs.Marking.{HasBit}
 use Rattle.hub_loop.specs.Holding.{end_held}
 use Rattle.hub_loop.proofs.Marks.{marked-but, same-marks, all-but, is-marked, moves-other, moves-same, is-line}
