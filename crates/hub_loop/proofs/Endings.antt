@@ -9,13 +9,13 @@ use Rattle.std.proofs.lemmas.List.Sums.{sum_by-cons}
 use Rattle.slab.specs.Slab.{Slab, entries, entries_from, slab_len}
 use Rattle.hub_queue.specs.Taking.{TakerSeat}
 use Rattle.hub_loop.specs.declared.ending.StillOpen.{StillOpen}
-use Rattle.hub_loop.specs.Ending.{closing_ends, grave_ends, open_ends, open_seat, swept_ends}
-use Rattle.hub_loop.specs.States.{ClosingState, DeliveryState, HoldingState}
+use Rattle.hub_loop.specs.Ending.{closing_ends, grave_ends, open_ends, open_number, open_seat, swept_ends}
+use Rattle.hub_loop.specs.States.{ClosedState, ClosingState, DeliveryState, HoldingState}
 use Rattle.hub_clients.specs.declared.handed.HandedQueue.{HandedQueue}
 use Rattle.hub_ports.specs.Seats.{PortSeat}
 use Rattle.hub_queue.specs.Graves.{GraveSeat, SweptSeat}
 use Rattle.hub_loop.specs.declared.closed.ClosedPort.{ClosedPort}
-use Rattle.hub_loop.specs.Noticing.{open_port, port_numbers, ports_in, AreClosed, AreEnded, NamedBehind, IsTold, AreTold, NoticesMore}
+use Rattle.hub_loop.specs.Noticing.{open_port, port_numbers, ports_in, AreEnded, NamedBehind, IsTold, AreTold, NoticesMore}
 use Rattle.hub_loop.specs.Looping.{LoopState}
 use Rattle.hub_queue.specs.Standing.{StandSeat}
 use Rattle.hub_loop.specs.Closing.{IsOpenClosed}
@@ -120,16 +120,22 @@ pub ended-begun : (c : ClosingState) (graves : List GraveSeat) (all : List Still
 ended-begun c graves all before o is =
     subst (λ (p : Option ClosingState). AreEnded p graves all (closing_ends c) before c.noticed) (sym is) (behind-none (closing_ends c) (closing_ends c) c.noticed c.noticed refl refl)
 
--- nothing had begun
-pub ended-begins : (c : ClosingState) (graves : List GraveSeat) (all sorted : List StillOpen) (before : List ClosedPort) (o : Option ClosingState) → o ≡ None → c.swept ≡ [] → AreClosed all sorted before c.noticed → IsPermutation (grave_ends graves ++ open_ends sorted) (grave_ends c.graves) → IsNonDecreasing (grave_ends c.graves) → AreEnded o graves all (closing_ends c) before c.noticed
-ended-begins c graves all sorted before o is none closed same rise =
-    subst (λ (p : Option ClosingState). AreEnded p graves all (closing_ends c) before c.noticed) (sym is) (
+-- all was taken out and closed, where nothing had begun
+pub ended-first : (c : ClosingState) (old mid new last : ClosedState) (all opened sorted : List StillOpen) (o : Option ClosingState) → o ≡ None → c.swept ≡ [] → opened ≡ all → IsPermutation opened sorted → IsNonDecreasingBy (λ one. (open_number one).0) sorted → mid ≡ old → grave_ends new.graves ≡ grave_ends mid.graves ++ open_ends sorted → NoticesMore (ports_in sorted) mid.noticed new.noticed → last ≡ new → IsPermutation (grave_ends last.graves) (grave_ends c.graves) → c.noticed ≡ last.noticed → IsNonDecreasing (grave_ends c.graves) → AreEnded o old.graves all (closing_ends c) old.noticed c.noticed
+ended-first c old mid new last all opened sorted o is none taken moved rises same graves told mine swapped noticed order =
+    subst (λ (p : Option ClosingState). AreEnded p old.graves all (closing_ends c) old.noticed c.noticed) (sym is) (
       sorted,
       grave_ends c.graves,
       c.noticed,
-      closed,
-      same,
-      rise,
+      (
+        subst (λ (os : List StillOpen). IsPermutation os sorted) taken moved,
+        rises,
+        subst (λ (s : ClosedState). NoticesMore (ports_in sorted) s.noticed c.noticed) same
+            (subst (NoticesMore (ports_in sorted) mid.noticed) (sym (noticed ∙ ap (λ (s : ClosedState). s.noticed) mine)) told),
+      ),
+      subst (λ ends. IsPermutation ends (grave_ends c.graves))
+          (ap (λ (s : ClosedState). grave_ends s.graves) mine ∙ graves ∙ ap (λ (s : ClosedState). grave_ends s.graves ++ open_ends sorted) same) swapped,
+      order,
       behind-none (grave_ends c.graves) (closing_ends c) c.noticed c.noticed (ap (λ swept. swept_ends swept ++ grave_ends c.graves) none) refl,
     )
 
