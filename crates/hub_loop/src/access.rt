@@ -100,8 +100,8 @@ impl<H: Handler + Drop, C: Checkpoint + Drop> EventLoop<H, C> {
 
     /// Lends the client's queue of this number. `None` where the loop doesn't hold it.
     pub fn client_mut(&mut self, end: EndId) -> Option<&mut ClientQueue>
-        ensures some { IfSome result (λ queue. Holds self.old.holding.ends.held (ClientHeld queue.now)
-            × (queue.now.end ≡ end.0)) }
+        ensures some { IfSome result (λ queue.
+            Holds self.old.holding.ends.held (ClientHeld queue.now) × (queue.now.end ≡ end.0)) }
         ensures none { IfNone result (HoldsNoClient self.old.holding.ends.held end) }
     {
         let key = self.holding.ends.find_end(Sought::Client, end)?;
@@ -110,7 +110,8 @@ impl<H: Handler + Drop, C: Checkpoint + Drop> EventLoop<H, C> {
 
     /// Lends the member of this number. `None` where the loop doesn't hold it.
     pub fn member_mut(&mut self, end: EndId) -> Option<&mut Member>
-        ensures some { IfSome result (λ member. Holds self.old.holding.ends.held (MemberHeld member.now)
+        ensures some { IfSome result (λ member.
+            Holds self.old.holding.ends.held (MemberHeld member.now)
             × (member.now.taker.end ≡ end.0)) }
         ensures none { IfNone result (HoldsNoMember self.old.holding.ends.held end) }
     {
@@ -154,7 +155,8 @@ impl<H: Handler + Drop, C: Checkpoint + Drop> EventLoop<H, C> {
 
     /// Shows the member of this number. `None` where the loop doesn't hold it.
     pub fn member(&self, end: EndId) -> Option<&Member>
-        ensures some { IfSome result (λ member. Holds self.now.holding.ends.held (MemberHeld member.now)
+        ensures some { IfSome result (λ member.
+            Holds self.now.holding.ends.held (MemberHeld member.now)
             × (member.now.taker.end ≡ end.0)) }
         ensures none { IfNone result (HoldsNoMember self.now.holding.ends.held end) }
     {
