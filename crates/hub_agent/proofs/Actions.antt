@@ -11,7 +11,8 @@ use Rattle.hub_clients.specs.Handing.{taker_of}
 use Rattle.hub_clients.specs.declared.handed.HandedQueue.{HandedQueue}
 use Rattle.hub_clients.specs.declared.handed.HandedQueue.TheVariants as handed
 use Rattle.hub_logging.specs.Notes.{Notes, delivered}
-use Rattle.hub_loop.specs.Adopting.{HoldsMore, IsFetched, IsHeldAs, Stored}
+use Rattle.hub_loop.specs.Adopting.{HoldsMore, IsFetched, IsHeldAs}
+use Rattle.hub_loop.specs.States.{HoldingState}
 use Rattle.hub_loop.specs.Closing.{ClosesEnd}
 use Rattle.hub_loop.specs.declared.posting.Way.{Way}
 use Rattle.hub_loop.specs.Posting.{PostsThrough}
@@ -353,30 +354,30 @@ fetched_count e (held.Port p) n is = absurd is
 fetched_count e (held.Member m) n is = absurd is
 fetched_count e (held.Line l) n is = absurd is
 
-queue_held : (e : ℕ) (old new : Stored) (end : EndId) → IsFetched true old new end → held_in new.held e ≡ held_in old.held e + times e (end ∷ [])
+queue_held : (e : ℕ) (old new : HoldingState) (end : EndId) → IsFetched true old new end → held_in new.ends.held e ≡ held_in old.ends.held e + times e (end ∷ [])
 queue_held e old new end (q, is, (h, same, more, closed)) =
-    let a = count_held e old.held new.held h more in
+    let a = count_held e old.ends.held new.ends.held h more in
     let b = fetched_count e h (taker_of q).end (fetched_end q h same) in
     let c : ◌≡◌ {A = ℕ} (cond ((taker_of q).end == e) 1 0) (cond (end.0 == e) 1 0) = ap (λ m. cond {A = ℕ} (m == e) 1 0) is in
     let d = times_one e end in
     omega (arith, a, b, c, d)
 
-no_queue_held : (e : ℕ) (old new : Stored) (end : EndId) → IsFetched false old new end → held_in new.held e ≡ held_in old.held e
-no_queue_held e old new end (inl same) = count_same e old.held new.held same.0
-no_queue_held e old new end (inr (q, is, (error, unfit, refused, same, buried))) = count_same e old.held new.held same
+no_queue_held : (e : ℕ) (old new : HoldingState) (end : EndId) → IsFetched false old new end → held_in new.ends.held e ≡ held_in old.ends.held e
+no_queue_held e old new end (inl same) = count_same e old.ends.held new.ends.held same.held
+no_queue_held e old new end (inr (q, is, (error, unfit, refused, same, buried))) = count_same e old.ends.held new.ends.held same
 
-pub fetched_accounts : (before now : AgentState) (old mid : Stored) (end : EndId) (started : Bool) → before.ends ≡ old.held → IsFetched true old mid end → StartsClient mid.held now.ends end started
+pub fetched_accounts : (before now : AgentState) (old mid : HoldingState) (end : EndId) (started : Bool) → before.ends ≡ old.ends.held → IsFetched true old mid end → StartsClient mid.ends.held now.ends end started
     → ((epoch : ℕ) × WritesEntries (Adopted end epoch ∷ []) before.notes now.notes) → now.kept ≡ before.kept → Accounts before now
 fetched_accounts before now old mid end started same came starts (epoch, written) kept =
     accounts_by before now (Adopted end epoch ∷ []) written (λ none. kept ∙ none) (λ e.
     let a = ap (λ s. held_in s e) same in
     let b = queue_held e old mid end came in
-    let c = client_started e mid.held now.ends end started starts in
+    let c = client_started e mid.ends.held now.ends end started starts in
     let g = gained_cons e (Adopted end epoch) [] in
     let l = lost_cons e (Adopted end epoch) [] in
     omega (arith, a, b, c, g, l))
 
-pub not_fetched_accounts : (before now : AgentState) (old : Stored) (new : Stored) (end : EndId) → before.ends ≡ old.held → IsFetched false old new end → now.ends ≡ new.held → now.notes ≡ before.notes → now.kept ≡ before.kept → Accounts before now
+pub not_fetched_accounts : (before now : AgentState) (old : HoldingState) (new : HoldingState) (end : EndId) → before.ends ≡ old.ends.held → IsFetched false old new end → now.ends ≡ new.ends.held → now.notes ≡ before.notes → now.kept ≡ before.kept → Accounts before now
 not_fetched_accounts before now old new end same came is notes kept =
     accounts_same before now notes kept (λ e.
     let a = ap (λ s. held_in s e) same in

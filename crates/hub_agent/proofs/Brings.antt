@@ -5,7 +5,7 @@ use Rattle.slab.specs.Slab.{Slab, SameValues, get}
 use Rattle.hub_envelope.specs.declared.envelope.Envelope.{Envelope}
 use Rattle.hub_envelope.specs.declared.ids.EndId.{EndId}
 use Rattle.hub_logging.specs.Notes.{IsLoggable, Notes, found, not_missing}
-use Rattle.hub_loop.specs.Adopting.{AreAdopted, HoldsMore, IsOneAdopted, Stored}
+use Rattle.hub_loop.specs.Adopting.{AreAdopted, HoldsMore, IsOneAdopted}
 use Rattle.hub_loop.specs.Asking.{IsAsked, IsHeldAsked, Leaves}
 use Rattle.hub_loop.specs.Delivering.{IsLookedForIn}
 use Rattle.hub_loop.specs.Ending.{is_held}
@@ -96,24 +96,24 @@ given_count e key v keys old new before after given =
     asked_count e given.middle new key given.count after given.given.0 given.given.1 ∙ all_count e keys old given.middle before given.count given.busy given.earlier
 
 -- One port is adopted and held, or it is missing.
-one_adopted : (e : ℕ) (p : PortSeat) (old new : Stored) (before after : List EndId) → IsOneAdopted p old new before after
-    → held_in new.held e + times e after ≡ held_in old.held e + times e before + cond (p.taker.end == e) 1 0
+one_adopted : (e : ℕ) (p : PortSeat) (old new : HoldingState) (before after : List EndId) → IsOneAdopted p old new before after
+    → held_in new.ends.held e + times e after ≡ held_in old.ends.held e + times e before + cond (p.taker.end == e) 1 0
 one_adopted e p old new before after (inl (q, received, more, closed, same)) =
-    let grown = count_held e old.held new.held (Port q) more in
+    let grown = count_held e old.ends.held new.ends.held (Port q) more in
     let end : q.taker.end ≡ p.taker.end = ap (λ (t : TakerSeat). t.end) received.0.0.new_is in
     let here : ◌≡◌ {A = ℕ} (cond (q.taker.end == e) 1 0) (cond (p.taker.end == e) 1 0) = ap (λ n. cond {A = ℕ} (n == e) 1 0) end in
     let none = ap (times e) same in
     omega (arith, grown, here, none)
 one_adopted e p old new before after (inr (error, unfit, received, same, buried, is)) =
-    let held = count_same e old.held new.held same in
+    let held = count_same e old.ends.held new.ends.held same in
     let missing = ap (times e) is ∙ times_both e before (end_of p ∷ []) in
     let one = times_one e (end_of p) in
     omega (arith, held, missing, one)
 
-all_adopted : (e : ℕ) (ps : List PortSeat) (old new : Stored) (before after : List EndId) → AreAdopted ps old new before after
-    → held_in new.held e + times e after ≡ held_in old.held e + times e before + times e (ends_of ps)
+all_adopted : (e : ℕ) (ps : List PortSeat) (old new : HoldingState) (before after : List EndId) → AreAdopted ps old new before after
+    → held_in new.ends.held e + times e after ≡ held_in old.ends.held e + times e before + times e (ends_of ps)
 all_adopted e [] old new before after (same, is) =
-    let held = count_same e old.held new.held same.0 in
+    let held = count_same e old.ends.held new.ends.held same.held in
     let missing = ap (times e) is in
     omega (arith, held, missing)
 all_adopted e (p ∷ ps) old new before after (middle, between, one, rest) =
@@ -132,21 +132,21 @@ to_be_logged e v missing (listed, none) = notice_step e v.ports missing v.notice
 
 -- what a turn leaves, where it is no error and no delivery was kept
 abbrev pub Brought : Turn → HoldingState → HoldingState → Notes → Type 0
-Brought Delivered old new left = (e : ℕ) → held_in new.held e ≤ held_in old.held e + times e left.adopted
-Brought (Idle busy) old new left = (e : ℕ) → held_in new.held e ≤ held_in old.held e
-Brought Ending old new left = (e : ℕ) → held_in new.held e ≤ held_in old.held e
+Brought Delivered old new left = (e : ℕ) → held_in new.ends.held e ≤ held_in old.ends.held e + times e left.adopted
+Brought (Idle busy) old new left = (e : ℕ) → held_in new.ends.held e ≤ held_in old.ends.held e
+Brought Ending old new left = (e : ℕ) → held_in new.ends.held e ≤ held_in old.ends.held e
 
 brought_none : (given left : TurnState Notes) (looks : _) (turn : Turn) → given.kept ≡ None → IsTurn {E = LoopError} leaves refuses given left looks (Ok turn) → (left.kept ≡ None) × Brought turn given.holding left.holding left.handler
 brought_none given left looks Ending first t =
-    (ap (λ (s : TurnState Notes). s.kept) t.0 ∙ first, λ e. let same = ap (λ (s : TurnState Notes). held_in s.holding.held e) t.0 in omega (arith, same))
+    (ap (λ (s : TurnState Notes). s.kept) t.0 ∙ first, λ e. let same = ap (λ (s : TurnState Notes). held_in s.holding.ends.held e) t.0 in omega (arith, same))
 brought_none given left looks (Idle busy) first t =
     let due = subst (λ k. IsDue k given.holding left.holding looks given.pops left.pops (Err busy)) first t.0 in
-    (t.1, λ e. let same = all_count e due.0.0 given.holding.held left.holding.held given.pops left.pops busy due.0.1 in omega (arith, same))
+    (t.1, λ e. let same = all_count e due.0.0 given.holding.ends.held left.holding.ends.held given.pops left.pops busy due.0.1 in omega (arith, same))
 brought_none given left looks Delivered first (d, f, middle, taken_up, (r, missing, looked, adopted, said), none, next) = (
   none,
   λ e.
       let (key, v, is, served, due, mark, same) = subst (λ k. IsDue k given.holding middle looks given.pops left.pops (Ok d)) first taken_up in
-      let taken = given_count e key v served.0 given.holding.held middle.held given.pops left.pops served.1 in
+      let taken = given_count e key v served.0 given.holding.ends.held middle.ends.held given.pops left.pops served.1 in
       let parts = subst (λ (a : Option ReceivingState). IsLookedForIn a d.envelope r) (ap (λ (x : DeliveryState). x.arrival) is) looked in
       let split = split_times e d.envelope.ports (ends_of r.found) r.missing parts in
       let all = all_adopted e r.found _ _ r.missing missing adopted in
@@ -156,14 +156,14 @@ brought_none given left looks Delivered first (d, f, middle, taken_up, (r, missi
 )
 
 -- no more is held than before
-no_more : (e : ℕ) (old new : HoldingState) (was now : AgentState) → was.ends ≡ old.held → now.ends ≡ new.held → held_in new.held e ≤ held_in old.held e → held_in now.ends e ≤ held_in was.ends e
+no_more : (e : ℕ) (old new : HoldingState) (was now : AgentState) → was.ends ≡ old.ends.held → now.ends ≡ new.ends.held → held_in new.ends.held e ≤ held_in old.ends.held e → held_in now.ends e ≤ held_in was.ends e
 no_more e old new was now held_was held_now fewer =
     let a = ap (λ s. held_in s e) held_was in
     let b = ap (λ s. held_in s e) held_now in
     omega (arith, a, b, fewer)
 
 -- What a turn leaves of a loop is what the agent has then.
-brought : (turn : Turn) (old new : HoldingState) (keeps : Option DeliveryState) (left : Notes) (was now : AgentState) → (was.kept ≡ None → (keeps ≡ None) × Brought turn old new left) → was.ends ≡ old.held → now.ends ≡ new.held → now.kept ≡ keeps → now.notes ≡ left → TurnBrings turn was now
+brought : (turn : Turn) (old new : HoldingState) (keeps : Option DeliveryState) (left : Notes) (was now : AgentState) → (was.kept ≡ None → (keeps ≡ None) × Brought turn old new left) → was.ends ≡ old.ends.held → now.ends ≡ new.ends.held → now.kept ≡ keeps → now.notes ≡ left → TurnBrings turn was now
 brought Delivered old new keeps left was now gives held_was held_now kept_now notes = λ none.
     let (gone, came) = gives none in (
       kept_now ∙ gone,
@@ -183,7 +183,7 @@ brought Ending old new keeps left was now gives held_was held_now kept_now notes
 
 -- what a turn brings, where it is no error
 pub turn_brings : (given left : TurnState Notes) (looks : _) (result : Result Turn LoopError) (was now : AgentState)
-    → IsTurn leaves refuses given left looks result → was.ends ≡ given.holding.held → was.kept ≡ given.kept → now.ends ≡ left.holding.held → now.kept ≡ left.kept → now.notes ≡ left.handler → IfOk result (λ turn. TurnBrings turn was now)
+    → IsTurn leaves refuses given left looks result → was.ends ≡ given.holding.ends.held → was.kept ≡ given.kept → now.ends ≡ left.holding.ends.held → now.kept ≡ left.kept → now.notes ≡ left.handler → IfOk result (λ turn. TurnBrings turn was now)
 turn_brings given left looks (Ok turn) was now t held_was kept_was held_now kept_now notes =
     brought turn given.holding left.holding left.kept left.handler was now (λ (none : was.kept ≡ None). brought_none given left looks turn (sym kept_was ∙ none) t) held_was held_now kept_now notes
 turn_brings given left looks (Err error) was now t held_was kept_was held_now kept_now notes = tt

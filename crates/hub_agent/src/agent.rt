@@ -102,7 +102,7 @@ impl<'s, C: Checkpoint, K: Lends<Roster> + Drop> Model for Agent<'s, C, K> {
 
     ghost view = { λ a. record {
       notes = a.scribe;
-      ends = a.event_loop.holding.held;
+      ends = a.event_loop.holding.ends.held;
       kept = a.event_loop.kept;
       order = a.order;
       peers = a.peers.items;

@@ -138,7 +138,7 @@ pub(crate) fn finish_loop<C: Checkpoint, K: Lends<Roster>, R: Wait>(
     ensures written { IfOk result (λ log. (entries : List LogEntry) × AreEndings entries
         × (log ≡ log_and scribe.log entries)) }
     ensures own { IfOk result (λ log. (e : ℕ) →
-        lost e log.1 ≤ lost e scribe.log.1 + times_held event_loop.entry.holding.held e) }
+        lost e log.1 ≤ lost e scribe.log.1 + times_held event_loop.entry.holding.ends.held e) }
 {
     let held = event_loop.ends();
     let ended = end_loop(rt, shared, roster, event_loop);

@@ -4,6 +4,7 @@ ghost use Rattle.std.specs.Prelude.{◌≡◌, ◌≢◌, List, false, IfErr, If
 ghost use Rattle.std.specs.Prelude.{OnOk};
 ghost use Rattle.hub_loop.specs.Adopting.{HoldsMore};
 ghost use Rattle.hub_loop.specs.Looking.{HoldsNoLine};
+ghost use Rattle.hub_loop.specs.Looping.{SameButEnds};
 ghost use Rattle.hub_loop.specs.declared.held.Held.TheVariants.{Port as PortHeld};
 ghost use Rattle.hub_ports.specs.Refusing.{answer_with, carried_body};
 ghost use Rattle.hub_ports.specs.Seats.{PortSeat, ends_of};
@@ -52,12 +53,11 @@ fn post_over<C: Checkpoint, R: Wait>(
 ) -> Result<Posted, SendRefusal>
     requires { IsSome parcel.old.body }
     ensures sent { SendsOrReturns way agent (carried_body parcel.old) parcel.old.ports
-        event_loop.old.holding.held event_loop.new.holding.held
+        event_loop.old.holding.ends.held event_loop.new.holding.ends.held
         (answer_with result parcel.new closings.new) }
     ensures back { parcel.new.ports.items
         ≡ given_back (answer_with result parcel.new closings.new) }
-    ensures rest { event_loop.new
-        ≡ record event_loop.old { holding = event_loop.new.holding } }
+    ensures rest { SameButEnds event_loop.old event_loop.new }
 {
     match event_loop.post(rt, hub, agent, way, parcel, closings) {
         Some(answer) => answer,

@@ -1,16 +1,9 @@
-mod Adopts
 mod Asks
-mod Closes
-mod Closings
 mod Delivers
+mod Endings
 mod Looks
 mod Marks
-mod Notices
 mod Pops
 mod Posts
-mod Reaches
-mod Scans
 mod Serves
-mod Starts
-mod Sweeps
 mod TakesNothing

@@ -1,5 +1,5 @@
--- What is looked for is found, where it is held.
-use Rattle.std.proofs.Common.{◌≡◌, ◌∙◌, ℕ, Bool, true, false, List, Option, Some, None, refl, ap, subst, ⊎_elim, arith}
+-- What is looked for is found, where it is held, and started.
+use Rattle.std.proofs.Common.{◌≡◌, ◌∙◌, ℕ, Bool, true, false, List, Option, Some, None, refl, ap, subst, ⊎_elim, arith, rules}
 use Rattle.std.specs.Prelude.{IfSome, IfNone, ◌↔◌, is_some}
 use Rattle.slab.specs.Slab.{Slab, get}
 use Rattle.hub_envelope.specs.declared.ids.EndId.{EndId}
@@ -15,6 +15,7 @@ use Rattle.hub_loop.specs.Holding.{end_held}
 use Rattle.hub_loop.specs.Looking.{Holds, IsEndOf, IsLineTo, IsSlotOf, IsFound}
 use Rattle.hub_loop.specs.Reaching.{AreReached}
 use Rattle.hub_loop.proofs.Serves.{mark-cases}
+use Rattle.hub_loop.specs.Starting.{IsStartedAs, StartsClient, StartsPort}
 
 -- what is of a kind and number is the end of that number
 pub kind-end : (k : Sought) (end : EndId) (held : Held) → IsEndOf k end held → end_held held ≡ Some end
@@ -87,3 +88,11 @@ line-found slots end (Some key) is found =
     let (held, there, to) = slot-of (IsLineTo end) (get slots key) is in
     let (line, same, number) = line-of end held to in
     (line, (key, there ∙ ap (λ h. Some h) same), number)
+
+pub starts-port : (old new : Slab Held) (end : EndId) (came : Bool) → IsStartedAs kind.Port old new end came → StartsPort old new end came
+starts-port old new end true is = search rules
+starts-port old new end false is = search rules
+
+pub starts-client : (old new : Slab Held) (end : EndId) (came : Bool) → IsStartedAs kind.Client old new end came → StartsClient old new end came
+starts-client old new end true is = search rules
+starts-client old new end false is = search rules

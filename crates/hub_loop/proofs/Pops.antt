@@ -12,9 +12,8 @@ use Rattle.hub_queue.specs.Counting.{Count}
 use Rattle.hub_queue.specs.Taking.{TakerSeat, IsTaken}
 use Rattle.hub_loop.specs.Asking.{Leaves, IsAsked, IsHeldAsked}
 use Rattle.hub_loop.specs.Holding.{seat_of}
-use Rattle.hub_loop.specs.Popping.{is_seat_enabled, is_enabled}
+use Rattle.hub_loop.specs.Turning.{is_seat_enabled, is_enabled, IsDue}
 use Rattle.hub_loop.specs.Serving.{IsSlotAsked, IsAskedAt, AskedAll, HasOrder, InOrder}
-use Rattle.hub_loop.specs.Turning.{IsDue}
 use Rattle.hub_loop.specs.declared.held.Held.{Held}
 use Rattle.hub_loop.specs.declared.serving.Served.TheVariants.{Nothing}
 use Rattle.hub_loop.specs.States.{DeliveryState, HoldingState}
@@ -250,8 +249,8 @@ pops-served next busy keys old new before after within gave order =
     omega (arith, ahead, behind, same, split, counted, all)
 
 -- where no delivery was kept and no end gave an envelope
-pub pops-due : (kept : Option DeliveryState) (busy : Bool) (old new : HoldingState) (looks : List BoardStep) (before after : Count) → (kept ≡ None → length old.held.slots ≤ old.held.capacity) → IsDue kept old new looks before after (Err busy) → count_by is_enabled old.held.slots + before.pops ≤ after.pops
+pub pops-due : (kept : Option DeliveryState) (busy : Bool) (old new : HoldingState) (looks : List BoardStep) (before after : Count) → (kept ≡ None → length old.ends.held.slots ≤ old.ends.held.capacity) → IsDue kept old new looks before after (Err busy) → count_by is_enabled old.ends.held.slots + before.pops ≤ after.pops
 pops-due None busy old new looks before after within due =
     let served = due.0 in
-    pops-served old.next busy served.0 old.held new.held before after (within refl) served.1 served.2
+    pops-served old.ends.next busy served.0 old.ends.held new.ends.held before after (within refl) served.1 served.2
 pops-due (Some k) busy old new looks before after within due = absurd cc

@@ -16,7 +16,7 @@ use Rattle.hub_loop.specs.Holding.{at_stand, end_held, stand_held}
 use Rattle.hub_loop.specs.Looking.{IsFound, IsSlotOf, IsWay, LacksWay}
 use Rattle.hub_loop.specs.Posting.{IsPostedOver}
 use Rattle.hub_loop.specs.Reaching.{AreReached}
-use Rattle.hub_loop.proofs.Reaches.{all-but, moves-same, written}
+use Rattle.hub_loop.proofs.Marks.{all-but, moves-same, written}
 
 -- where its line stands is no part of the number of an end
 pub at-stand-end : (held : Held) (stand : StandSeat) → end_held (at_stand held stand) ≡ end_held held

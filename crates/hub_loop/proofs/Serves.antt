@@ -1,21 +1,29 @@
--- The ends are asked in turn.
-use Rattle.std.proofs.Common.{◌≡◌, ◌⊎◌, ℕ, zero, suc, ◌+◌, ◌-◌, ◌<◌, ◌≤◌, Bool, true, false, ◌||◌, List, [], ◌∷◌, ◌++◌, Option, Some, None, inl, inr, refl, sym, ap, ◌∙◌, subst, arith, append_assoc, get_or-set_other}
+-- The ends are asked in turn: those that are found at the listener first, and those at which nothing was posted are passed over.
+use Rattle.std.proofs.Common.{◌≡◌, ◌⊎◌, ℕ, zero, suc, ◌+◌, ◌-◌, ◌<◌, ◌≤◌, Bool, true, false, ◌||◌, List, [], ◌∷◌, ◌++◌, Option, Some, None, inl, inr, refl, sym, ap, ◌∙◌, subst, arith, append_assoc, get_or-set_other, length, append-nil}
 use Rattle.std.proofs.lemmas.Bool.{cases_eq, cases_lt}
 use Rattle.slab.specs.Slab.{Slab, get, with_value}
 use Rattle.hub_envelope.specs.declared.envelope.Envelope.{Envelope}
-use Rattle.hub_ready.specs.Marking.{mark_of, SameBut}
+use Rattle.hub_ready.specs.Marking.{mark_of, SameBut, HasBit}
 use Rattle.hub_queue.specs.Counting.{Count}
+use Rattle.hub_loop.specs.declared.ends.HeldEnds.{HeldEnds}
 use Rattle.hub_loop.specs.declared.held.Held.{Held}
 use Rattle.hub_queue.specs.declared.taker.Took.{Took}
 use Rattle.hub_queue.specs.declared.taker.Took.TheVariants.{Got, Empty, Busy, Again, Disabled, Closed}
 use Rattle.hub_loop.specs.Asking.{IsHeldAsked}
-use Rattle.hub_loop.specs.Serving.{served_by, IsSlotAsked, IsTakenAtKey, IsAskedAt, AskedAll, HasGiven, HasOrder, IsIn}
-use Rattle.hub_loop.specs.Scanning.{EndsSeat, CameTo, HasPassedKeys, HasWalked, NoneBetween, StayMarked}
+use Rattle.hub_loop.specs.Serving.{served_by, IsSlotAsked, IsTakenAtKey, IsAskedAt, AskedAll, HasGiven, HasOrder, IsIn, IsPassedOver, IsEndPassedOver, CameTo, HasPassedKeys, HasWalked, NoneBetween, StayMarked, AskedOrUnmarked, AreMarkedServed, AreEachServed, IsServed}
 use Rattle.hub_loop.specs.declared.serving.Served.{Served}
 use Rattle.hub_loop.specs.declared.serving.Served.TheVariants.{Given, Nothing}
 use Rattle.hub_loop.specs.declared.serving.Which.{Which}
 use Rattle.hub_loop.specs.declared.serving.Which.TheVariants.{Marked, Each}
-use Rattle.hub_loop.proofs.Reaches.{written}
+use Rattle.hub_loop.proofs.Marks.{written, all-move}
+use Rattle.hub_bell.specs.declared.board.BoardStep.{BoardStep}
+use Rattle.hub_bell.specs.Seats.{BoardSeat, Done}
+use Rattle.hub_envelope.specs.declared.ids.EndId.{EndId}
+use Rattle.hub_ready.specs.declared.ready.Ready.{Ready}
+use Rattle.hub_ready.specs.Finding.{KeepsMarks, HasStepped, HasRead, WasClear, LeadsTo, FindsAll}
+use Rattle.hub_loop.specs.Holding.{end_held}
+use Rattle.hub_loop.specs.Reaching.{IsReached, AreReached}
+use Rattle.std.proofs.lemmas.List.{get_or_past}
 
 -- what is held under a key was asked
 pub taken-there : (slots : Slab Held) (key : ℕ) (old new : Held) (before after : Count) (answer : Option Took) → get slots key ≡ Some old → IsHeldAsked old new before after answer → IsTakenAtKey slots (with_value slots key new) key before after answer
@@ -197,11 +205,11 @@ came-join keys more old mid new before c after was busy (Nothing now) first seco
 )
 
 -- nothing was walked yet
-pub walked-none : (which : Which) (low : ℕ) (at : EndsSeat) (count : Count) (was : Bool) → HasWalked which low low at at count count was (Nothing was)
-walked-none which low at count was = ([], (false, (refl, refl, refl), refl), passed-none which low at.marks, λ key marked. inr marked)
+pub walked-none : (which : Which) (low : ℕ) (at : HeldEnds) (count : Count) (was : Bool) → HasWalked which low low at at count count was (Nothing was)
+walked-none which low at count was = ([], (false, (refl, refl, refl), refl), passed-none which low at.ready.marks, λ key marked. inr marked)
 
 -- the next key was asked, and gave none
-pub walked-more : (which : Which) (low from key : ℕ) (old mid new : EndsSeat) (before c after : Count) (was busy here : Bool) → low ≤ from → from ≤ key → HasWalked which low from old mid before c was (Nothing busy) → NoneBetween which mid.marks from key → IsAskedAt mid.held new.held key c after (Nothing here) → SameBut key mid.marks new.marks → HasWalked which low (key + 1) old new before after was (Nothing (here || busy))
+pub walked-more : (which : Which) (low from key : ℕ) (old mid new : HeldEnds) (before c after : Count) (was busy here : Bool) → low ≤ from → from ≤ key → HasWalked which low from old mid before c was (Nothing busy) → NoneBetween which mid.ready.marks from key → IsAskedAt mid.held new.held key c after (Nothing here) → SameBut key mid.ready.marks new.ready.marks → HasWalked which low (key + 1) old new before after was (Nothing (here || busy))
 walked-more which low from key old mid new before c after was busy here above le walked none came same =
     let keys = walked.0 in
     let asked = walked.1 in (
@@ -211,21 +219,273 @@ walked-more which low from key old mid new before c after was busy here above le
         (mid.held, c, asked.0, here, asked.1, came, refl),
         ap (λ b. here || b) asked.2 ∙ sym (or-assoc here asked.0 was),
       ),
-      passed-key which low key keys old.marks (omega (arith, above, le)) (passed-to which low from key keys old.marks mid.marks walked.3 le walked.2 none),
-      stay-more key keys old.marks mid.marks new.marks walked.3 same,
+      passed-key which low key keys old.ready.marks (omega (arith, above, le)) (passed-to which low from key keys old.ready.marks mid.ready.marks walked.3 le walked.2 none),
+      stay-more key keys old.ready.marks mid.ready.marks new.ready.marks walked.3 same,
     )
 
 -- the next key was asked, and gave an envelope
-pub walked-given : (which : Which) (low from key high : ℕ) (old mid new : EndsSeat) (before c after : Count) (was busy : Bool) (v : Envelope) → low ≤ from → from ≤ key → key < high → HasWalked which low from old mid before c was (Nothing busy) → NoneBetween which mid.marks from key → IsAskedAt mid.held new.held key c after (Given key v) → HasWalked which low high old new before after was (Given key v)
+pub walked-given : (which : Which) (low from key high : ℕ) (old mid new : HeldEnds) (before c after : Count) (was busy : Bool) (v : Envelope) → low ≤ from → from ≤ key → key < high → HasWalked which low from old mid before c was (Nothing busy) → NoneBetween which mid.ready.marks from key → IsAskedAt mid.held new.held key c after (Given key v) → HasWalked which low high old new before after was (Given key v)
 walked-given which low from key high old mid new before c after was busy v above le less walked none came = (
   walked.0,
   record { middle = mid.held; count = c; busy = walked.1.0; earlier = walked.1.1; given = came },
-  passed-to which low from key walked.0 old.marks mid.marks walked.3 le walked.2 none,
+  passed-to which low from key walked.0 old.ready.marks mid.ready.marks walked.3 le walked.2 none,
   omega (arith, above, le),
   less,
 )
 
 -- no key is left
-pub walked-whole : (which : Which) (low from high : ℕ) (old new : EndsSeat) (before after : Count) (was busy : Bool) → from ≤ high → HasWalked which low from old new before after was (Nothing busy) → NoneBetween which new.marks from high → HasWalked which low high old new before after was (Nothing busy)
+pub walked-whole : (which : Which) (low from high : ℕ) (old new : HeldEnds) (before after : Count) (was busy : Bool) → from ≤ high → HasWalked which low from old new before after was (Nothing busy) → NoneBetween which new.ready.marks from high → HasWalked which low high old new before after was (Nothing busy)
 walked-whole which low from high old new before after was busy le walked none =
-    (walked.0, walked.1, passed-to which low from high walked.0 old.marks new.marks walked.3 le walked.2 none, walked.3)
+    (walked.0, walked.1, passed-to which low from high walked.0 old.ready.marks new.ready.marks walked.3 le walked.2 none, walked.3)
+
+-- the listener was looked at, and these are the marks then
+pub record Gathered (old mid : Ready) (looks : List BoardStep) : Type 0 where
+  pub keeps : KeepsMarks old.marks mid.marks
+  pub listed : mid.listed ≡ old.listed
+  pub finds : FindsAll mid.listed.items mid.marks looks
+
+-- what is not marked then was not marked before
+unmarked-found : (old mid : List ℕ) (key : ℕ) → KeepsMarks old mid → mark_of mid key ≡ 0 → mark_of old key ≡ 0
+unmarked-found old mid key keeps clear =
+    elim (mark-cases old key) [
+      | inl none ↦ none
+      | inr set ↦ absurd (let still = keeps.1 key set in omega (arith, clear, still))
+    ]
+
+-- more may be marked, and what is listed is the same
+pub gathered : (slots : Slab Held) (r q : Ready) → KeepsMarks r.marks q.marks → q.listed ≡ r.listed → AreReached slots r → AreReached slots q
+gathered slots r q keeps listed reached =
+    all-move slots r q (λ key. record {
+      bits = omega (arith, keeps.0);
+      marks = λ has clear. unmarked-found r.marks q.marks key keeps clear;
+      listed = λ end leads. subst (λ l. LeadsTo l.items end key) (sym listed) leads;
+    }) reached
+
+-- no steps
+pub no-steps : (a : BoardSeat) → HasStepped a a []
+no-steps a = (refl, ap (λ (steps : List BoardStep). record a.at { steps = steps }) (sym (append-nil a.at.steps)))
+
+-- steps behind steps
+pub steps-join : (a b c : BoardSeat) (front back : List BoardStep) → HasStepped a b front → HasStepped b c back → HasStepped a c (front ++ back)
+steps-join a b c front back first second =
+    (second.0 ∙ first.0, second.1 ∙ ap (λ (at : Done). record at { steps = at.steps ++ back }) first.1 ∙ ap (λ (steps : List BoardStep). record a.at { steps = steps }) (append_assoc a.at.steps front back))
+
+read-left : (word value : ℕ) (front back : List BoardStep) → HasRead word value front → HasRead word value (front ++ back)
+read-left word value [] back read = absurd read
+read-left word value (step ∷ front) back read =
+    elim read [
+      | inl here ↦ inl here
+      | inr there ↦ inr (read-left word value front back there)
+    ]
+
+clear-left : (end : EndId) (front back : List BoardStep) → WasClear end front → WasClear end (front ++ back)
+clear-left end front back clear =
+    elim clear [
+      | inl name ↦ inl (name.0, read-left _ name.0 front back name.1, name.2)
+      | inr bit ↦ inr (bit.0, read-left _ bit.0 front back bit.1, bit.2)
+    ]
+
+-- an end that isn't marked then is passed over
+passed-end : (end : Option EndId) (held : Held) (old mid : Ready) (key : ℕ) (looks : List BoardStep) → end_held held ≡ end → IsReached old key held → Gathered old mid looks → mark_of mid.marks key ≡ 0 → IsEndPassedOver end (mark_of old.marks key) looks
+passed-end None held old mid key looks is reached found clear = tt
+passed-end (Some end) held old mid key looks is reached found clear =
+    let none = unmarked-found old.marks mid.marks key found.keeps clear in
+    let leads : LeadsTo mid.listed.items end key = subst (λ l. LeadsTo l.items end key) (sym found.listed) (reached.1 end is none) in
+    let has : HasBit mid.marks key = omega (arith, reached.0, found.keeps.0) in (
+      none,
+      elim (found.finds end key leads has) [
+        | inl marked ↦ absurd (omega (arith, clear, marked))
+        | inr was ↦ was
+      ],
+    )
+
+passed-slot : (slot : Option Held) (slots : Slab Held) (old mid : Ready) (key : ℕ) (looks : List BoardStep) → get slots key ≡ slot → AreReached slots old → Gathered old mid looks → mark_of mid.marks key ≡ 0 → IsPassedOver slot (mark_of old.marks key) looks
+passed-slot None slots old mid key looks is reached found clear = tt
+passed-slot (Some held) slots old mid key looks is reached found clear = passed-end (end_held held) held old mid key looks refl (reached key held is) found clear
+
+asked-or-passed : (slots : Slab Held) (old mid : Ready) (key : ℕ) (keys : List ℕ) (looks : List BoardStep) → AreReached slots old → Gathered old mid looks → IsIn key keys ⊎ (mark_of mid.marks key ≡ 0) → IsIn key keys ⊎ IsPassedOver (get slots key) (mark_of old.marks key) looks
+asked-or-passed slots old mid key keys looks reached found asked =
+    elim asked [
+      | inl was ↦ inl was
+      | inr clear ↦ inr (passed-slot (get slots key) slots old mid key looks refl reached found clear)
+    ]
+
+-- where no key can be nothing is held
+passed-past : (slots : Slab Held) (mark key : ℕ) (looks : List BoardStep) → length slots.slots ≤ slots.capacity → slots.capacity ≤ key → IsPassedOver (get slots key) mark looks
+passed-past slots mark key looks within past =
+    let none : get slots key ≡ None = get_or_past slots.slots key None (omega (arith, within, past)) in
+    subst (λ slot. IsPassedOver slot mark looks) (sym none) tt
+
+-- the marked ones were walked from the next key on, and then those before it up to this one
+passed-behind : (old : HeldEnds) (mid : Ready) (bound : ℕ) (keys more marks : List ℕ) (looks : List BoardStep) → length old.held.slots ≤ old.held.capacity → Gathered old.ready mid looks → AskedOrUnmarked old.next old.held.capacity keys mid.marks → StayMarked keys mid.marks marks → AskedOrUnmarked 0 bound more marks → (key : ℕ) → (old.next ≤ key) ⊎ (key < bound) → IsIn key (more ++ keys) ⊎ IsPassedOver (get old.held key) (mark_of old.ready.marks key) looks
+passed-behind old mid bound keys more marks looks within found ahead stay behind key place =
+    let passed = asked-or-passed old.held old.ready mid key (more ++ keys) looks old.reached found in
+    elim place [
+      | inl past ↦
+          elim (cases_lt key old.held.capacity) [
+            | inl inside ↦
+                elim (ahead key past inside) [
+                  | inl was ↦ inl (in-right key more keys was)
+                  | inr clear ↦ passed (inr clear)
+                ]
+            | inr out ↦ inr (passed-past old.held (mark_of old.ready.marks key) key looks within out)
+          ]
+      | inr before ↦ passed (unmarked-before keys more mid.marks marks key stay (behind key (omega arith) before))
+    ]
+
+-- the ends, once the listener was looked at
+abbrev pub looked : (old : HeldEnds) (mid : Ready) (looks : List BoardStep) → Gathered old.ready mid looks → HeldEnds
+looked old mid looks found = record { held = old.held; next = old.next; ready = mid; lines = old.lines; room = old.room; reached = gathered old.held old.ready mid found.keeps found.listed old.reached }
+
+-- a marked end from the next key on gave an envelope
+pub marked-ahead : (high : ℕ) (old new : HeldEnds) (mid : Ready) (heard hears : BoardSeat) (looks : List BoardStep) (before after : Count) (was : Bool) (served : Served) → HasStepped heard hears looks → (found : Gathered old.ready mid looks) → HasWalked Marked old.next high (looked old mid looks found) new before after was served → ((busy : Bool) → served ≡ Nothing busy → ⊥) → AreMarkedServed old new heard hears before after was served
+marked-ahead high old new mid heard hears looks before after was (Given key v) stepped found walked other = (
+  looks,
+  stepped,
+  walked.0,
+  walked.1,
+  λ end is.
+      elim is [
+        | inl here ↦ asked-or-passed old.held old.ready mid end walked.0 looks old.reached found (walked.2 end here.0 here.1)
+        | inr wraps ↦ absurd (omega (arith, wraps.0, walked.3))
+      ],
+)
+marked-ahead high old new mid heard hears looks before after was (Nothing busy) stepped found walked other = absurd (other busy refl)
+
+-- the marked ends from the next key on gave none, and then those before it were walked
+pub marked-behind : (high : ℕ) (old then new : HeldEnds) (mid : Ready) (heard hears : BoardSeat) (looks : List BoardStep) (before c after : Count) (was busy : Bool) (served : Served) → HasStepped heard hears looks → (found : Gathered old.ready mid looks) → length old.held.slots ≤ old.held.capacity → high ≡ old.held.capacity → HasWalked Marked old.next high (looked old mid looks found) then before c was (Nothing busy) → HasWalked Marked 0 old.next then new c after busy served → AreMarkedServed old new heard hears before after was served
+marked-behind high old then new mid heard hears looks before c after was busy (Given key v) stepped found within whole first second = (
+  looks,
+  stepped,
+  second.0 ++ first.0,
+  came-join first.0 second.0 old.held then.held new.held before c after was busy (Given key v) first.1 second.1,
+  λ end is.
+      elim is [
+        | inl here ↦ absurd (omega (arith, here.0, here.1, second.4))
+        | inr wraps ↦
+            passed-behind old mid key first.0 second.0 then.ready.marks looks within found
+            (subst (λ n. AskedOrUnmarked old.next n first.0 mid.marks) whole first.2) first.3 second.2 end wraps.1
+      ],
+)
+marked-behind high old then new mid heard hears looks before c after was busy (Nothing now) stepped found within whole first second = (
+  looks,
+  stepped,
+  second.0 ++ first.0,
+  came-join first.0 second.0 old.held then.held new.held before c after was busy (Nothing now) first.1 second.1,
+  λ end is.
+      passed-behind old mid old.next first.0 second.0 then.ready.marks looks within found
+      (subst (λ n. AskedOrUnmarked old.next n first.0 mid.marks) whole first.2) first.3 second.2 end
+      (elim (cases_lt end old.next) [
+        | inl less ↦ inr less
+        | inr past ↦ inl past
+      ]),
+)
+
+-- no end of a range was asked yet
+pub each-none : (low : ℕ) (at : HeldEnds) (heard : BoardSeat) (count : Count) (was : Bool) → AreEachServed low low at at heard heard count count was (Nothing was)
+each-none low at heard count was =
+    let none : low - low ≡ 0 = omega arith in
+    ([], no-steps heard, [], (false, (refl, refl, refl), refl), subst (λ n. HasOrder low n []) (sym none) tt)
+
+-- the next part of it was walked
+pub each-walked : (low from to : ℕ) (old mid new : HeldEnds) (heard hears : BoardSeat) (before c after : Count) (was busy : Bool) (served : Served) → low ≤ from → from ≤ to → AreEachServed low from old mid heard hears before c was (Nothing busy) → HasWalked Each from to mid new c after busy served → AreEachServed low to old new heard hears before after was served
+each-walked low from to old mid new heard hears before c after was busy (Given key v) above le first walked =
+    (first.0, first.1, walked.0 ++ first.2, came-join first.2 walked.0 old.held mid.held new.held before c after was busy (Given key v) first.3 walked.1, tt)
+each-walked low from to old mid new heard hears before c after was busy (Nothing now) above le first walked =
+    let there : from ≡ low + (from - low) = omega (arith, above) in
+    let all : (to - from) + (from - low) ≡ to - low = omega (arith, above, le) in (
+      first.0,
+      first.1,
+      walked.0 ++ first.2,
+      came-join first.2 walked.0 old.held mid.held new.held before c after was busy (Nothing now) first.3 walked.1,
+      subst (λ n. HasOrder low n (walked.0 ++ first.2)) all
+          (order-join low (from - low) (to - from) first.2 walked.0 first.4 (subst (λ n. HasOrder n (to - from) walked.0) there walked.2)),
+    )
+
+-- then the marked ones were served
+pub each-marked : (low from : ℕ) (old mid new : HeldEnds) (heard middle hears : BoardSeat) (before c after : Count) (was busy : Bool) (served : Served) → AreEachServed low from old mid heard middle before c was (Nothing busy) → AreMarkedServed mid new middle hears c after busy served → AreEachServed low from old new heard hears before after was served
+each-marked low from old mid new heard middle hears before c after was busy (Given key v) first second = (
+  first.0 ++ second.0,
+  steps-join heard middle hears first.0 second.0 first.1 second.1,
+  second.2 ++ first.2,
+  came-join first.2 second.2 old.held mid.held new.held before c after was busy (Given key v) first.3 second.3,
+  tt,
+)
+each-marked low from old mid new heard middle hears before c after was busy (Nothing now) first second = (
+  first.0 ++ second.0,
+  steps-join heard middle hears first.0 second.0 first.1 second.1,
+  second.2 ++ first.2,
+  came-join first.2 second.2 old.held mid.held new.held before c after was busy (Nothing now) first.3 second.3,
+  order-later low (from - low) first.2 second.2 first.4,
+)
+
+-- where an end gave an envelope the range doesn't matter
+pub each-given : (low to high : ℕ) (old new : HeldEnds) (heard hears : BoardSeat) (before after : Count) (was : Bool) (served : Served) → AreEachServed low to old new heard hears before after was served → ((busy : Bool) → served ≡ Nothing busy → ⊥) → AreEachServed low high old new heard hears before after was served
+each-given low to high old new heard hears before after was (Given key v) came other = came
+each-given low to high old new heard hears before after was (Nothing busy) came other = absurd (other busy refl)
+
+end-more : (end : Option EndId) (mark : ℕ) (front back : List BoardStep) → IsEndPassedOver end mark front → IsEndPassedOver end mark (front ++ back)
+end-more None mark front back over = tt
+end-more (Some end) mark front back over = (over.0, clear-left end front back over.1)
+
+passed-more : (slot : Option Held) (mark : ℕ) (front back : List BoardStep) → IsPassedOver slot mark front → IsPassedOver slot mark (front ++ back)
+passed-more None mark front back over = tt
+passed-more (Some held) mark front back over = end-more (end_held held) mark front back over
+
+-- a marked end gave an envelope
+pub served-first : (old new : HeldEnds) (heard hears : BoardSeat) (before after : Count) (was : Bool) (served : Served) → AreMarkedServed old new heard hears before after was served → ((busy : Bool) → served ≡ Nothing busy → ⊥) → IsServed old new heard hears before after served
+served-first old new heard hears before after was (Given key v) came other = (came.0, came.1, (came.2, came.3, came.4))
+served-first old new heard hears before after was (Nothing busy) came other = absurd (other busy refl)
+
+-- no marked end gave one: each was asked or passed over, so that it doesn't matter in which order the others are asked then
+pub served-then : (low high : ℕ) (old mid new : HeldEnds) (heard middle hears : BoardSeat) (before c after : Count) (was busy : Bool) (served : Served) → AreMarkedServed old mid heard middle before c was (Nothing busy) → AreEachServed low high mid new middle hears c after busy served → ((now : Bool) → served ≡ Nothing now → ⊥) → IsServed old new heard hears before after served
+served-then low high old mid new heard middle hears before c after was busy (Given key v) first second other = (
+  first.0 ++ second.0,
+  steps-join heard middle hears first.0 second.0 first.1 second.1,
+  (
+    second.2 ++ first.2,
+    came-join first.2 second.2 old.held mid.held new.held before c after was busy (Given key v) first.3 second.3,
+    λ end is.
+        elim (first.4 end tt) [
+          | inl one ↦ inl (in-right end second.2 first.2 one)
+          | inr over ↦ inr (passed-more (get old.held end) (mark_of old.ready.marks end) first.0 second.0 over)
+        ],
+  ),
+)
+served-then low high old mid new heard middle hears before c after was busy (Nothing now) first second other = absurd (other now refl)
+
+or-false : (b : Bool) → (b || false) ≡ b
+or-false true = refl
+or-false false = refl
+
+-- no end from the next key on gave one either, and then those before it were asked
+pub served-last : (high : ℕ) (old mid then new : HeldEnds) (heard middle later hears : BoardSeat) (before c d after : Count) (marked ahead : Bool) (served : Served) → high ≡ old.held.capacity → AreMarkedServed old mid heard middle before c false (Nothing marked) → AreEachServed old.next high mid then middle later c d marked (Nothing ahead) → AreEachServed 0 old.next then new later hears d after ahead served → IsServed old new heard hears before after served
+served-last high old mid then new heard middle later hears before c d after marked ahead (Given key v) whole first second third =
+    served-then 0 old.next old mid new heard middle hears before c after false marked (Given key v) first (
+      second.0 ++ third.0,
+      steps-join middle later hears second.0 third.0 second.1 third.1,
+      third.2 ++ second.2,
+      came-join second.2 third.2 mid.held then.held new.held c d after marked ahead (Given key v) second.3 third.3,
+      tt,
+    )
+    (λ now is. absurd cc)
+served-last high old mid then new heard middle later hears before c d after marked ahead (Nothing now) whole first second third =
+    let keys = second.2 ++ first.2 in
+    let looks = first.0 ++ second.0 in
+    let none : old.next - 0 ≡ old.next = omega arith in
+    let two = came-join first.2 second.2 old.held mid.held then.held before c d false marked (Nothing ahead) first.3 second.3 in
+    let all = came-join keys third.2 old.held then.held new.held before d after false ahead (Nothing now) two third.3 in (
+      looks ++ third.0,
+      steps-join heard later hears looks third.0 (steps-join heard middle later first.0 second.0 first.1 second.1) third.1,
+      (
+        third.2 ++ keys,
+        subst (AskedAll (third.2 ++ keys) old.held new.held before after) (sym (all.2 ∙ or-false all.0)) all.1,
+        (
+          third.2,
+          keys,
+          refl,
+          subst (λ n. HasOrder old.next (n - old.next) keys) whole (order-before old.next (high - old.next) second.2 first.2 second.4),
+          subst (λ n. HasOrder 0 n third.2) none third.4,
+        ),
+      ),
+    )

@@ -10,13 +10,12 @@ use Rattle.hub_queue.specs.declared.taker.Took.{Took}
 use Rattle.hub_queue.specs.declared.taker.Took.TheVariants.{Got, Empty, Busy, Again, Disabled, Closed}
 use Rattle.hub_queue.specs.Counting.{Count}
 use Rattle.hub_queue.specs.Taking.{TakerSeat, IsTaken}
-use Rattle.hub_loop.specs.Adopting.{Stored, IsOneAdopted, AreAdopted}
+use Rattle.hub_loop.specs.Adopting.{IsOneAdopted, AreAdopted}
 use Rattle.hub_loop.specs.Asking.{Leaves, IsAsked, IsHeldAsked}
 use Rattle.hub_loop.specs.Delivering.{IsDelivered}
 use Rattle.hub_loop.specs.Holding.{seat_of, with_seat}
 use Rattle.hub_loop.specs.Serving.{served_by, IsSlotAsked, IsAskedAt, AskedAll, HasGiven}
-use Rattle.hub_loop.specs.TakingNothing.{got_of, TookNothing, SeatTookNothing, HeldTookNothing, SlotTookNothing, TookNothingBut, Gave}
-use Rattle.hub_loop.specs.Turning.{store_of, IsDue, IsTurn, TurnState}
+use Rattle.hub_loop.specs.Turning.{got_of, TookNothing, SeatTookNothing, HeldTookNothing, SlotTookNothing, TookNothingBut, Gave, IsDue, IsTurn, TurnState}
 use Rattle.hub_loop.specs.declared.held.Held.{Held}
 use Rattle.hub_loop.specs.States.{DeliveryState, HoldingState}
 use Rattle.hub_loop.specs.declared.serving.Served.TheVariants.{Given, Nothing}
@@ -173,54 +172,54 @@ others-given keys key v old new before after given other differs =
     (others-asked given.middle new key given.count after (Given key v) given.given other differs)
 
 -- what was held before ports were adopted is held afterwards
-one-kept : (p : PortSeat) (old new : Stored) (before after : List EndId) (key : ℕ) (h : Held) → IsOneAdopted p old new before after → get old.held key ≡ Some h → get new.held key ≡ Some h
+one-kept : (p : PortSeat) (old new : HoldingState) (before after : List EndId) (key : ℕ) (h : Held) → IsOneAdopted p old new before after → get old.ends.held key ≡ Some h → get new.ends.held key ≡ Some h
 one-kept p old new before after key h one there =
     ⊎_elim
     (λ (held : _).
     let more = held.2 in
-    let differs : key ≢ more.0 = λ same. let none : get old.held key ≡ None = ap (get old.held) same ∙ more.1 in absurd cc in
+    let differs : key ≢ more.0 = λ same. let none : get old.ends.held key ≡ None = ap (get old.ends.held) same ∙ more.1 in absurd cc in
     more.2.others key differs ∙ there)
     (λ (unfit : _). unfit.3 key ∙ there)
     one
 
-adopted-kept : (ps : List PortSeat) (old new : Stored) (before after : List EndId) (key : ℕ) (h : Held) → AreAdopted ps old new before after → get old.held key ≡ Some h → get new.held key ≡ Some h
-adopted-kept [] old new before after key h did there = did.0.0 key ∙ there
+adopted-kept : (ps : List PortSeat) (old new : HoldingState) (before after : List EndId) (key : ℕ) (h : Held) → AreAdopted ps old new before after → get old.ends.held key ≡ Some h → get new.ends.held key ≡ Some h
+adopted-kept [] old new before after key h did there = did.0.held key ∙ there
 adopted-kept (p ∷ ps) old new before after key h did there =
     adopted-kept ps did.0 new did.1 after key h did.3 (one-kept p old did.0 before did.1 key h did.2 there)
 
 -- of the ends under the other keys nothing was taken before the delivery
-others-due : (kept : Option DeliveryState) (old new : HoldingState) (looks : List BoardStep) (before after : Count) (d : DeliveryState) (key : ℕ) → IsDue kept old new looks before after (Ok d) → (kept ≡ None → new.next ≡ key + 1 → ⊥) → SlotTookNothing (get old.held key) (get new.held key)
-others-due (Some k) old new looks before after d key due gave = slot-same (get old.held key) (get new.held key) (ap (λ holding. get holding.held key) due.1)
+others-due : (kept : Option DeliveryState) (old new : HoldingState) (looks : List BoardStep) (before after : Count) (d : DeliveryState) (key : ℕ) → IsDue kept old new looks before after (Ok d) → (kept ≡ None → new.ends.next ≡ key + 1 → ⊥) → SlotTookNothing (get old.ends.held key) (get new.ends.held key)
+others-due (Some k) old new looks before after d key due gave = slot-same (get old.ends.held key) (get new.ends.held key) (ap (λ holding. get holding.ends.held key) due.1)
 others-due None old new looks before after d key due gave =
     let served = due.3 in
-    others-given served.0 due.0 due.1 old.held new.held before after served.1 key
+    others-given served.0 due.0 due.1 old.ends.held new.ends.held before after served.1 key
     (λ same. gave refl (due.4 ∙ ap (λ k. k + 1) (sym same)))
 
 -- of no end anything was taken where nothing is due
-pub all-due : (kept : Option DeliveryState) (old new : HoldingState) (looks : List BoardStep) (before after : Count) (busy : Bool) (key : ℕ) → IsDue kept old new looks before after (Err busy) → SlotTookNothing (get old.held key) (get new.held key)
-all-due (Some k) old new looks before after busy key due = slot-same (get old.held key) (get new.held key) (ap (λ holding. get holding.held key) due.1)
+pub all-due : (kept : Option DeliveryState) (old new : HoldingState) (looks : List BoardStep) (before after : Count) (busy : Bool) (key : ℕ) → IsDue kept old new looks before after (Err busy) → SlotTookNothing (get old.ends.held key) (get new.ends.held key)
+all-due (Some k) old new looks before after busy key due = slot-same (get old.ends.held key) (get new.ends.held key) (ap (λ holding. get holding.ends.held key) due.1)
 all-due None old new looks before after busy key due =
     let served = due.0 in
-    all-asked-none served.0 old.held new.held before after busy served.1 key
+    all-asked-none served.0 old.ends.held new.ends.held before after busy served.1 key
 
 module _ {H E : Type 0} (leaves refuses : H → Envelope → List EndId → H → Type 0) where
-  delivered-kept : (d e : DeliveryState) (before after : Stored) (h left : H) (result : Result (Unit {0}) E) → IsDelivered {E = E} leaves refuses d e before after h left result → (key : ℕ) (held : Held) → get before.held key ≡ Some held → get after.held key ≡ Some held
+  delivered-kept : (d e : DeliveryState) (before after : HoldingState) (h left : H) (result : Result (Unit {0}) E) → IsDelivered {E = E} leaves refuses d e before after h left result → (key : ℕ) (held : Held) → get before.ends.held key ≡ Some held → get after.ends.held key ≡ Some held
   delivered-kept d e before after h left (Ok done) did key held there = adopted-kept did.0.found before after did.0.missing did.1 key held did.3 there
   delivered-kept d e before after h left (Err error) did key held there =
       ⊎_elim
-      (λ (none : _). ap (λ (s : Stored). get s.held key) none.2 ∙ there)
+      (λ (none : _). ap (λ (s : HoldingState). get s.ends.held key) none.2 ∙ there)
       (λ (partly : _). adopted-kept partly.2 before after partly.0.missing partly.1.missing key held partly.5.1 there)
       did.1
 
   -- a turn takes of no end but the one that gave its envelope
-  pub others-turn : (given left : TurnState H) (looks : List BoardStep) (result : Result Turn E) → IsTurn leaves refuses given left looks result → TookNothingBut (Gave given.kept left.holding.next result) given.holding.held left.holding.held
-  others-turn given left looks (Ok Ending) turn key gave = slot-same (get given.holding.held key) (get left.holding.held key) (ap (λ (t : TurnState H). get t.holding.held key) turn.0)
+  pub others-turn : (given left : TurnState H) (looks : List BoardStep) (result : Result Turn E) → IsTurn leaves refuses given left looks result → TookNothingBut (Gave given.kept left.holding.ends.next result) given.holding.ends.held left.holding.ends.held
+  others-turn given left looks (Ok Ending) turn key gave = slot-same (get given.holding.ends.held key) (get left.holding.ends.held key) (ap (λ (t : TurnState H). get t.holding.ends.held key) turn.0)
   others-turn given left looks (Ok (Idle busy)) turn key gave = all-due given.kept given.holding left.holding looks given.pops left.pops busy key turn.0
   others-turn given left looks (Ok Delivered) turn key gave =
-      slot-kept (get given.holding.held key) (get turn.2.held key) (get left.holding.held key)
-      (others-due given.kept given.holding turn.2 looks given.pops left.pops turn.0 key turn.3 (λ is behind. gave (subst (λ k. Gave {E = E} k left.holding.next (Ok Delivered) key) (sym is) (turn.6 ∙ behind))))
-      (λ held there. delivered-kept turn.0 turn.1 (store_of turn.2) (store_of left.holding) given.handler left.handler (Ok tt) turn.4 key held there)
+      slot-kept (get given.holding.ends.held key) (get turn.2.ends.held key) (get left.holding.ends.held key)
+      (others-due given.kept given.holding turn.2 looks given.pops left.pops turn.0 key turn.3 (λ is behind. gave (subst (λ k. Gave {E = E} k left.holding.ends.next (Ok Delivered) key) (sym is) (turn.6 ∙ behind))))
+      (λ held there. delivered-kept turn.0 turn.1 turn.2 left.holding given.handler left.handler (Ok tt) turn.4 key held there)
   others-turn given left looks (Err error) turn key gave =
-      slot-kept (get given.holding.held key) (get turn.2.held key) (get left.holding.held key)
-      (others-due given.kept given.holding turn.2 looks given.pops left.pops turn.0 key turn.3 (λ is behind. gave (subst (λ k. Gave k left.holding.next (Err error) key) (sym is) (turn.6 ∙ behind))))
-      (λ held there. delivered-kept turn.0 turn.1 (store_of turn.2) (store_of left.holding) given.handler left.handler (Err error) turn.4 key held there)
+      slot-kept (get given.holding.ends.held key) (get turn.2.ends.held key) (get left.holding.ends.held key)
+      (others-due given.kept given.holding turn.2 looks given.pops left.pops turn.0 key turn.3 (λ is behind. gave (subst (λ k. Gave k left.holding.ends.next (Err error) key) (sym is) (turn.6 ∙ behind))))
+      (λ held there. delivered-kept turn.0 turn.1 turn.2 left.holding given.handler left.handler (Err error) turn.4 key held there)

@@ -15,22 +15,10 @@ use Rattle.hub_queue.specs.Ending.{IsClosed}
 use Rattle.hub_queue.specs.Graves.{GraveSeat}
 use Rattle.hub_queue.specs.Taking.{TakerSeat}
 use Rattle.hub_loop.specs.declared.closed.ClosedPort.{ClosedPort}
-use Rattle.hub_loop.specs.declared.ending.Closed.{Closed}
 use Rattle.hub_loop.specs.declared.held.Held.{Held}
 use Rattle.hub_loop.specs.declared.held.Held.TheVariants.{Port, Client, Worker}
-use Rattle.hub_loop.specs.States.{ClosedState, ReceivingState}
-use Rattle.hub_loop.specs.Telling.{IsTold}
-
--- what a loop holds, and what it has closed and not swept yet
-pub record Stored : Type 0 where
-  pub held : Slab Held
-  pub closed : ClosedState
-
-abbrev pub closed_of : Closed → ClosedState
-closed_of c = record { graves = c.graves.items; noticed = c.noticed.items; lines = c.lines.items }
-
-abbrev pub stored : Slab Held → Closed → Stored
-stored held closed = record { held = held; closed = closed_of closed }
+use Rattle.hub_loop.specs.States.{ClosedState, HoldingState, ReceivingState}
+use Rattle.hub_loop.specs.Noticing.{IsTold}
 
 -- What is held grew by this, under a key where nothing was held.
 abbrev pub HoldsMore : Slab Held → Slab Held → Held → Type 0
@@ -41,8 +29,9 @@ abbrev pub SameClosed : ClosedState → ClosedState → Type 0
 SameClosed old new = (new.graves ≡ old.graves) × (new.noticed ≡ old.noticed)
 
 -- the same is held, and the same was closed
-abbrev pub SameStored : Stored → Stored → Type 0
-SameStored old new = SameValues old.held new.held × SameClosed old.closed new.closed
+pub record SameStored (old new : HoldingState) : Type 0 where
+  pub held : SameValues old.ends.held new.ends.held
+  pub closed : SameClosed old.closed new.closed
 
 -- the adoption was refused for good
 abbrev pub IsUnfit : AdoptError → Type 0
@@ -62,19 +51,19 @@ IsQueueBuried q old new =
     (grave : GraveSeat) × IsClosed (taker_of q) grave × (new.graves ≡ old.graves ++ grave ∷ []) × (new.noticed ≡ old.noticed)
 
 -- One port more was adopted and is held; or it was refused for good: it was closed, and counts as missing.
-abbrev pub IsOneAdopted : PortSeat → Stored → Stored → List EndId → List EndId → Type 0
+abbrev pub IsOneAdopted : PortSeat → HoldingState → HoldingState → List EndId → List EndId → Type 0
 IsOneAdopted p old new before after =
-    ((q : PortSeat) × IsReceived p (Ok q) × HoldsMore old.held new.held (Port q) × SameClosed old.closed new.closed × (after ≡ before))
-    ⊎ ((error : AdoptError) × IsUnfit error × IsReceived p (Err (error, p)) × SameValues old.held new.held × IsPortBuried p old.closed new.closed × (after ≡ before ++ end_of p ∷ []))
+    ((q : PortSeat) × IsReceived p (Ok q) × HoldsMore old.ends.held new.ends.held (Port q) × SameClosed old.closed new.closed × (after ≡ before))
+    ⊎ ((error : AdoptError) × IsUnfit error × IsReceived p (Err (error, p)) × SameValues old.ends.held new.ends.held × IsPortBuried p old.closed new.closed × (after ≡ before ++ end_of p ∷ []))
 
 -- The ports were adopted in order; those that were refused for good joined the missing ones.
-abbrev pub AreAdopted : List PortSeat → Stored → Stored → List EndId → List EndId → Type 0
+abbrev pub AreAdopted : List PortSeat → HoldingState → HoldingState → List EndId → List EndId → Type 0
 AreAdopted [] old new before after = SameStored old new × (after ≡ before)
 AreAdopted (p ∷ ps) old new before after =
-    (middle : Stored) × (missing : List EndId) × IsOneAdopted p old middle before missing × AreAdopted ps middle new missing after
+    (middle : HoldingState) × (missing : List EndId) × IsOneAdopted p old middle before missing × AreAdopted ps middle new missing after
 
 -- The first of the ports that were found is found no more; true: it was adopted or refused for good; false: there is none. After an error all is as it was.
-abbrev pub IsFirstAdopted : {E : Type 0} → ReceivingState → ReceivingState → Stored → Stored → Result Bool E → Type 0
+abbrev pub IsFirstAdopted : {E : Type 0} → ReceivingState → ReceivingState → HoldingState → HoldingState → Result Bool E → Type 0
 IsFirstAdopted old new before after (Ok true) =
     (p : PortSeat) × (old.found ≡ p ∷ new.found) × IsOneAdopted p before after old.missing new.missing
 IsFirstAdopted old new before after (Ok false) =
@@ -83,12 +72,12 @@ IsFirstAdopted old new before after (Err error) =
     (new.found ≡ old.found) × SameStored before after × (new.missing ≡ old.missing)
 
 -- These were adopted or refused for good, and the others are still found.
-abbrev pub ArePartlyAdopted : ReceivingState → ReceivingState → Stored → Stored → List PortSeat → Type 0
+abbrev pub ArePartlyAdopted : ReceivingState → ReceivingState → HoldingState → HoldingState → List PortSeat → Type 0
 ArePartlyAdopted old new before after done =
     (old.found ≡ done ++ new.found) × AreAdopted done before after old.missing new.missing
 
 -- Ok: no port is left among those that were found. After an error some may be.
-abbrev pub AreAllAdopted : {E : Type 0} → ReceivingState → ReceivingState → Stored → Stored → Result (Unit {0}) E → Type 0
+abbrev pub AreAllAdopted : {E : Type 0} → ReceivingState → ReceivingState → HoldingState → HoldingState → Result (Unit {0}) E → Type 0
 AreAllAdopted old new before after (Ok all) = (new.found ≡ []) × AreAdopted old.found before after old.missing new.missing
 AreAllAdopted old new before after (Err error) = (done : List PortSeat) × ArePartlyAdopted old new before after done
 
@@ -98,10 +87,10 @@ IsHeldAs (handed.Client t) h = (u : TakerSeat) × (h ≡ Client u) × IsAdopted 
 IsHeldAs (handed.Worker t) h = (u : TakerSeat) × (h ≡ Worker u) × IsAdoptedAndStarted t (Ok u)
 
 -- True: the queue was adopted and is held. False: it was refused for good and closed.
-abbrev pub IsQueueAdopted : HandedQueue → Stored → Stored → Bool → Type 0
-IsQueueAdopted q old new true = (h : Held) × IsHeldAs q h × HoldsMore old.held new.held h × SameClosed old.closed new.closed
+abbrev pub IsQueueAdopted : HandedQueue → HoldingState → HoldingState → Bool → Type 0
+IsQueueAdopted q old new true = (h : Held) × IsHeldAs q h × HoldsMore old.ends.held new.ends.held h × SameClosed old.closed new.closed
 IsQueueAdopted q old new false =
-    (error : AdoptError) × IsUnfit error × IsAdopted (taker_of q) (Err (error, taker_of q)) × SameValues old.held new.held × IsQueueBuried q old.closed new.closed
+    (error : AdoptError) × IsUnfit error × IsAdopted (taker_of q) (Err (error, taker_of q)) × SameValues old.ends.held new.ends.held × IsQueueBuried q old.closed new.closed
 
 -- Of the queues that were fetched this one was taken out, or they are as they were.
 abbrev pub IsTakenFrom : HandedQueue → List HandedQueue → List HandedQueue → Type 0
@@ -117,6 +106,6 @@ abbrev pub KeepsFetched : EndId → List HandedQueue → List HandedQueue → Ty
 KeepsFetched end old new = IsPermutation old new ⊎ ((q : HandedQueue) × ((taker_of q).end ≡ end.0) × IsPermutation (q ∷ old) new)
 
 -- A queue of this number was adopted and is held, or it was refused for good and closed; false: or none was there.
-abbrev pub IsFetched : Bool → Stored → Stored → EndId → Type 0
+abbrev pub IsFetched : Bool → HoldingState → HoldingState → EndId → Type 0
 IsFetched true old new end = (q : HandedQueue) × ((taker_of q).end ≡ end.0) × IsQueueAdopted q old new true
 IsFetched false old new end = SameStored old new ⊎ ((q : HandedQueue) × ((taker_of q).end ≡ end.0) × IsQueueAdopted q old new false)

@@ -18,7 +18,7 @@ use Rattle.hub_loop.specs.declared.held.Held.{Held}
 use Rattle.hub_loop.specs.declared.held.Held.TheVariants.{Port, Client, Worker, Member, Line}
 use Rattle.hub_loop.specs.Adopting.{HoldsMore}
 use Rattle.hub_loop.specs.Holding.{end_held}
-use Rattle.hub_loop.specs.Telling.{IsTold}
+use Rattle.hub_loop.specs.Noticing.{IsTold}
 
 -- the end was closed, and nothing is told of a port
 abbrev pub IsClosedAlone : TakerSeat → ClosedEnd → Type 0

@@ -8,14 +8,9 @@ pub mod Looking
 pub mod Looping
 pub mod Marking
 pub mod Noticing
-pub mod Popping
 pub mod Posting
 pub mod Reaching
-pub mod Resting
-pub mod Scanning
 pub mod Serving
 pub mod Starting
 pub mod States
-pub mod TakingNothing
-pub mod Telling
 pub mod Turning

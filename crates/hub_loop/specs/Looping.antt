@@ -9,9 +9,7 @@ use Rattle.hub_life.specs.OrderSeat.{OrderSeat}
 use Rattle.hub_ready.specs.Finding.{HasStepped}
 use Rattle.hub_queue.specs.Counting.{Count}
 use Rattle.hub_loop.specs.declared.closed.ClosedPort.{ClosedPort}
-use Rattle.hub_loop.specs.declared.ends.Holding.{Holding}
 use Rattle.hub_loop.specs.declared.handler.Turn.{Turn}
-use Rattle.hub_loop.specs.Adopting.{closed_of}
 use Rattle.hub_loop.specs.Ending.{closing_ends, still_open}
 use Rattle.hub_loop.specs.Noticing.{AreEnded}
 use Rattle.hub_loop.specs.States.{ClosingState, DeliveryState, HoldingState}
@@ -26,9 +24,6 @@ pub record LoopState (H : Type 0) : Type 0 where
   pub kept : Option DeliveryState
   pub fetched : List HandedQueue
   pub closing : Option ClosingState
-
-abbrev pub holding_of : Holding → HoldingState
-holding_of h = record { bell = h.bell; held = h.ends.held; ready = h.ends.ready; next = h.ends.next; lines = h.ends.lines.keys; closed = closed_of h.closed }
 
 module _ {H : Type 0} where
   -- The loop took up what is due: what it stepped through at its listener may have told it which ends were rung.
@@ -55,13 +50,17 @@ module _ {H : Type 0} where
   abbrev pub SameButTaken : LoopState H → LoopState H → Type 0
   SameButTaken old new = new ≡ record old { listener = new.listener; holding = new.holding; kept = new.kept }
 
+  -- Only the ends and lines that are held have changed, with their marks and the key with which the next asking begins.
+  abbrev pub SameButEnds : LoopState H → LoopState H → Type 0
+  SameButEnds old new = new ≡ record old { holding = record old.holding { ends = new.holding.ends } }
+
   abbrev pub SameButFetched : LoopState H → LoopState H → Type 0
   SameButFetched old new = new ≡ record old { holding = new.holding; fetched = new.fetched }
 
   -- The loop has ended: these are the numbers of what was swept, and this is told of the ports.
   abbrev pub HasEnded : LoopState H → List ℕ → List ClosedPort → Type 0
   HasEnded l numbers told =
-      AreEnded l.closing l.holding.closed.graves (still_open l.holding.held l.fetched l.kept) numbers l.holding.closed.noticed told
+      AreEnded l.closing l.holding.closed.graves (still_open l.holding.ends.held l.fetched l.kept) numbers l.holding.closed.noticed told
 
   -- After want of memory: the loop is as it was, or it has ended so far.
   abbrev pub HasPaused : LoopState H → LoopState H → Type 0

@@ -1,15 +1,28 @@
--- What is told of the ports that were closed when a loop ended.
-use Rattle.std.specs.Prelude.{◌≡◌, ℕ, List, ◌++◌, map, filter_map, Option, Some, None}
-use Rattle.std.specs.List.Sorted.{IsNonDecreasing, IsNonDecreasingBy, IsPermutation}
+-- What is told of the ports that were closed.
+use Rattle.std.specs.Prelude.{◌≡◌, List, [], ◌∷◌, ◌++◌, ℕ, map, filter_map, Option, Some, None}
+use Rattle.hub_ports.specs.Closing.{IsToldAs}
 use Rattle.hub_ports.specs.Seats.{PortSeat}
-use Rattle.hub_queue.specs.Graves.{GraveSeat}
 use Rattle.hub_loop.specs.declared.closed.ClosedPort.{ClosedPort}
+use Rattle.std.specs.List.Sorted.{IsNonDecreasing, IsNonDecreasingBy, IsPermutation}
+use Rattle.hub_queue.specs.Graves.{GraveSeat}
 use Rattle.hub_loop.specs.declared.ending.StillOpen.{StillOpen}
 use Rattle.hub_loop.specs.declared.ending.StillOpen.TheVariants as still
 use Rattle.hub_loop.specs.declared.held.Held.TheVariants.{Port, Client, Worker, Member, Line}
 use Rattle.hub_loop.specs.Ending.{closing_ends, grave_ends, open_ends, open_number}
 use Rattle.hub_loop.specs.States.{ClosingState}
-use Rattle.hub_loop.specs.Telling.{NoticesMore}
+
+-- what is told of the port: its number, its line, and what became there of its notice
+abbrev pub IsTold : PortSeat → ClosedPort → Type 0
+IsTold p c = IsToldAs p c.end c.line c.noticed
+
+-- what is told of each of these ports, in this order
+abbrev pub AreTold : List PortSeat → List ClosedPort → Type 0
+AreTold [] told = told ≡ []
+AreTold (p ∷ ps) told = (c : ClosedPort) × (rest : List ClosedPort) × (told ≡ c ∷ rest) × IsTold p c × AreTold ps rest
+
+-- These ports were closed, in this order, and so much more is told.
+abbrev pub NoticesMore : List PortSeat → List ClosedPort → List ClosedPort → Type 0
+NoticesMore ports before after = (told : List ClosedPort) × (after ≡ before ++ told) × AreTold ports told
 
 -- the port that is closed when a loop ends, where it is one
 abbrev pub open_port : StillOpen → Option PortSeat

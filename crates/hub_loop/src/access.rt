@@ -26,7 +26,8 @@ ghost use Rattle.hub_loop.specs.Looking.{
   HoldsNoMember,
   HoldsNoPort,
 };
-ghost use Rattle.hub_loop.specs.Marking.{AreMarked};
+ghost use Rattle.hub_loop.specs.Looping.{SameButEnds};
+ghost use Rattle.hub_loop.specs.Marking.{MarksKept};
 ghost use Rattle.hub_loop.specs.Starting.{StartsClient, StartsPort};
 ghost use Rattle.hub_loop.specs.declared.held.Held.TheVariants.{
   Port as PortHeld,
@@ -55,25 +56,23 @@ impl<H: Handler + Drop, C: Checkpoint + Drop> EventLoop<H, C> {
     ///
     /// `OutOfMemory` where there was no memory for its place. Then it comes back.
     pub fn hold(&mut self, held: Held) -> Result<(), (LoopError, Held)>
-        ensures ok { OnOk result (HoldsMore self.old.holding.held self.new.holding.held held) }
+        ensures ok { OnOk result (HoldsMore self.old.holding.ends.held
+            self.new.holding.ends.held held) }
         ensures back { IfErr result (λ refused. refused.1 ≡ held) }
-        ensures err { OnErr result (SameValues self.old.holding.held self.new.holding.held) }
-        ensures marked { AreMarked self.old.holding.held self.old.holding.ready
-            self.new.holding.held self.new.holding.ready }
-        ensures closed { self.new.holding.closed ≡ self.old.holding.closed }
-        ensures rest { self.new ≡ record self.old { holding = self.new.holding } }
+        ensures err { OnErr result (SameValues self.old.holding.ends.held
+            self.new.holding.ends.held) }
+        ensures marks { MarksKept self.old.holding.ends self.new.holding.ends }
+        ensures rest { SameButEnds self.old self.new }
     {
         self.holding.ends.hold(held)
     }
 
     /// Enables the port of this number, as `Port::start`. False where the loop doesn't hold it.
     pub fn start_port(&mut self, end: EndId) -> bool
-        ensures started { StartsPort self.old.holding.held self.new.holding.held end result }
-        ensures marked { AreMarked self.old.holding.held self.old.holding.ready
-            self.new.holding.held self.new.holding.ready }
-        ensures same { (self.new.holding.next ≡ self.old.holding.next)
-            × (self.new.holding.closed ≡ self.old.holding.closed) }
-        ensures rest { self.new ≡ record self.old { holding = self.new.holding } }
+        ensures started { StartsPort self.old.holding.ends.held self.new.holding.ends.held end
+            result }
+        ensures marks { MarksKept self.old.holding.ends self.new.holding.ends }
+        ensures rest { SameButEnds self.old self.new }
     {
         self.holding.ends.start_kind(Sought::Port, end)
     }
@@ -81,21 +80,19 @@ impl<H: Handler + Drop, C: Checkpoint + Drop> EventLoop<H, C> {
     /// Enables the client's queue of this number, as `ClientQueue::start_messages` and `loaded`.
     /// False where the loop doesn't hold it.
     pub fn start_client(&mut self, end: EndId) -> bool
-        ensures started { StartsClient self.old.holding.held self.new.holding.held end result }
-        ensures marked { AreMarked self.old.holding.held self.old.holding.ready
-            self.new.holding.held self.new.holding.ready }
-        ensures same { (self.new.holding.next ≡ self.old.holding.next)
-            × (self.new.holding.closed ≡ self.old.holding.closed) }
-        ensures rest { self.new ≡ record self.old { holding = self.new.holding } }
+        ensures started { StartsClient self.old.holding.ends.held self.new.holding.ends.held end
+            result }
+        ensures marks { MarksKept self.old.holding.ends self.new.holding.ends }
+        ensures rest { SameButEnds self.old self.new }
     {
         self.holding.ends.start_kind(Sought::Client, end)
     }
 
     /// Lends the port of this number. `None` where the loop doesn't hold it.
     pub fn port_mut(&mut self, end: EndId) -> Option<&mut Port>
-        ensures some { IfSome result (λ port. Holds self.old.holding.held (PortHeld port.now)
+        ensures some { IfSome result (λ port. Holds self.old.holding.ends.held (PortHeld port.now)
             × (end_of port.now ≡ end)) }
-        ensures none { IfNone result (HoldsNoPort self.old.holding.held end) }
+        ensures none { IfNone result (HoldsNoPort self.old.holding.ends.held end) }
     {
         let key = self.holding.ends.find_end(Sought::Port, end)?;
         self.holding.ends.lend(key)?.as_port()
@@ -103,9 +100,9 @@ impl<H: Handler + Drop, C: Checkpoint + Drop> EventLoop<H, C> {
 
     /// Lends the client's queue of this number. `None` where the loop doesn't hold it.
     pub fn client_mut(&mut self, end: EndId) -> Option<&mut ClientQueue>
-        ensures some { IfSome result (λ queue. Holds self.old.holding.held (ClientHeld queue.now)
-            × (queue.now.end ≡ end.0)) }
-        ensures none { IfNone result (HoldsNoClient self.old.holding.held end) }
+        ensures some { IfSome result (λ queue.
+            Holds self.old.holding.ends.held (ClientHeld queue.now) × (queue.now.end ≡ end.0)) }
+        ensures none { IfNone result (HoldsNoClient self.old.holding.ends.held end) }
     {
         let key = self.holding.ends.find_end(Sought::Client, end)?;
         self.holding.ends.lend(key)?.as_client()
@@ -113,9 +110,10 @@ impl<H: Handler + Drop, C: Checkpoint + Drop> EventLoop<H, C> {
 
     /// Lends the member of this number. `None` where the loop doesn't hold it.
     pub fn member_mut(&mut self, end: EndId) -> Option<&mut Member>
-        ensures some { IfSome result (λ member. Holds self.old.holding.held (MemberHeld member.now)
+        ensures some { IfSome result (λ member.
+            Holds self.old.holding.ends.held (MemberHeld member.now)
             × (member.now.taker.end ≡ end.0)) }
-        ensures none { IfNone result (HoldsNoMember self.old.holding.held end) }
+        ensures none { IfNone result (HoldsNoMember self.old.holding.ends.held end) }
     {
         let key = self.holding.ends.find_end(Sought::Member, end)?;
         self.holding.ends.lend(key)?.as_member()
@@ -123,9 +121,9 @@ impl<H: Handler + Drop, C: Checkpoint + Drop> EventLoop<H, C> {
 
     /// Lends a line that posts at the end of this number. `None` where the loop holds none.
     pub fn line_mut(&mut self, end: EndId) -> Option<&mut Poster>
-        ensures some { IfSome result (λ line. Holds self.old.holding.held (LineHeld line.now)
+        ensures some { IfSome result (λ line. Holds self.old.holding.ends.held (LineHeld line.now)
             × (line.now.name.end ≡ end)) }
-        ensures none { IfNone result (HoldsNoLine self.old.holding.held end) }
+        ensures none { IfNone result (HoldsNoLine self.old.holding.ends.held end) }
     {
         let key = self.holding.ends.find_line(end)?;
         self.holding.ends.lend(key)?.as_line()
@@ -134,8 +132,8 @@ impl<H: Handler + Drop, C: Checkpoint + Drop> EventLoop<H, C> {
     /// Whether it holds a line that posts at the end of this number.
     pub fn has_line(&self, end: EndId) -> bool
         ensures some { result ≡ true → (line : StandSeat)
-            × Holds self.now.holding.held (LineHeld line) × (line.name.end ≡ end) }
-        ensures none { result ≡ false → HoldsNoLine self.now.holding.held end }
+            × Holds self.now.holding.ends.held (LineHeld line) × (line.name.end ≡ end) }
+        ensures none { result ≡ false → HoldsNoLine self.now.holding.ends.held end }
     {
         self.holding.ends.find_line(end).is_some()
     }
@@ -157,9 +155,10 @@ impl<H: Handler + Drop, C: Checkpoint + Drop> EventLoop<H, C> {
 
     /// Shows the member of this number. `None` where the loop doesn't hold it.
     pub fn member(&self, end: EndId) -> Option<&Member>
-        ensures some { IfSome result (λ member. Holds self.now.holding.held (MemberHeld member.now)
+        ensures some { IfSome result (λ member.
+            Holds self.now.holding.ends.held (MemberHeld member.now)
             × (member.now.taker.end ≡ end.0)) }
-        ensures none { IfNone result (HoldsNoMember self.now.holding.held end) }
+        ensures none { IfNone result (HoldsNoMember self.now.holding.ends.held end) }
     {
         let key = self.holding.ends.find_end(Sought::Member, end)?;
         match self.holding.ends.held.get(key)? {
@@ -170,9 +169,9 @@ impl<H: Handler + Drop, C: Checkpoint + Drop> EventLoop<H, C> {
 
     /// Shows the port, queue or member of this number. `None` where the loop doesn't hold it.
     pub fn held(&self, end: EndId) -> Option<&Held>
-        ensures some { IfSome result (λ held. Holds self.now.holding.held held.now
+        ensures some { IfSome result (λ held. Holds self.now.holding.ends.held held.now
             × (end_held held.now ≡ Some end)) }
-        ensures none { IfNone result (HoldsNoEnd self.now.holding.held end) }
+        ensures none { IfNone result (HoldsNoEnd self.now.holding.ends.held end) }
     {
         let key = self.holding.ends.find_end(Sought::End, end)?;
         self.holding.ends.held.get(key)
@@ -181,7 +180,7 @@ impl<H: Handler + Drop, C: Checkpoint + Drop> EventLoop<H, C> {
     /// The numbers of the ports, queues and members that the loop holds, in the order of their
     /// keys.
     pub fn ends(&self) -> Result<Vec<EndId>, OutOfMemory>
-        ensures { IfOk result (λ ends. ends.items ≡ ends_held self.now.holding.held) }
+        ensures { IfOk result (λ ends. ends.items ≡ ends_held self.now.holding.ends.held) }
     {
         self.holding.ends.numbers(self.alloc)
     }
@@ -189,11 +188,11 @@ impl<H: Handler + Drop, C: Checkpoint + Drop> EventLoop<H, C> {
     /// Gives the port, queue or member of this number out. `None` where the loop doesn't hold it.
     pub fn release(&mut self, end: EndId) -> Option<Held>
         ensures given { IfSome result (λ held. (end_held held ≡ Some end)
-            × HoldsMore self.new.holding.held self.old.holding.held held) }
-        ensures none { IfNone result (self.new.holding.held ≡ self.old.holding.held) }
-        ensures missing { IfNone result (HoldsNoEnd self.old.holding.held end) }
-        ensures closed { self.new.holding.closed ≡ self.old.holding.closed }
-        ensures rest { self.new ≡ record self.old { holding = self.new.holding } }
+            × HoldsMore self.new.holding.ends.held self.old.holding.ends.held held) }
+        ensures none { IfNone result (self.new.holding.ends.held ≡ self.old.holding.ends.held) }
+        ensures missing { IfNone result (HoldsNoEnd self.old.holding.ends.held end) }
+        ensures marks { MarksKept self.old.holding.ends self.new.holding.ends }
+        ensures rest { SameButEnds self.old self.new }
     {
         self.holding.ends.release(end)
     }
@@ -208,14 +207,13 @@ impl<H: Handler + Drop, C: Checkpoint + Drop> EventLoop<H, C> {
         roster: &mut L,
         end: EndId,
     ) -> Option<ClosedEnd>
-        ensures closed { IfSome result (λ closed. ClosesEnd self.old.holding.held
-            self.new.holding.held (L.shown roster.old) (L.shown roster.new) end closed) }
-        ensures missing { IfNone result (HoldsNoEnd self.old.holding.held end) }
+        ensures closed { IfSome result (λ closed. ClosesEnd self.old.holding.ends.held
+            self.new.holding.ends.held (L.shown roster.old) (L.shown roster.new) end closed) }
+        ensures missing { IfNone result (HoldsNoEnd self.old.holding.ends.held end) }
         ensures none { IfNone result (self.new ≡ self.old) }
         ensures stays { IfNone result (L.shown roster.new ≡ L.shown roster.old) }
-        ensures rest { self.new ≡ record self.old { holding = self.new.holding } }
-        ensures same { (self.new.holding.next ≡ self.old.holding.next)
-            × (self.new.holding.closed ≡ self.old.holding.closed) }
+        ensures marks { MarksKept self.old.holding.ends self.new.holding.ends }
+        ensures rest { SameButEnds self.old self.new }
     {
         let held = self.holding.ends.release(end)?;
         held.close(rt, hub, roster).ok()

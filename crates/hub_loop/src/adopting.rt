@@ -8,21 +8,19 @@ ghost use Rattle.std.specs.Prelude.{
   IfErr,
   OnErr,
 };
-ghost use Rattle.slab.specs.Slab.{HasRoomFor, SameValues};
+ghost use Rattle.slab.specs.Slab.{HasRoomFor};
 ghost use Rattle.hub_clients.specs.Handing.{taker_of};
 ghost use Rattle.hub_queue.specs.Adopting.{IsAdopted};
 ghost use Rattle.hub_loop.specs.Adopting.{
-  closed_of,
-  stored,
   AreAllAdopted,
   IsFirstAdopted,
   IsHeldAs,
   IsQueueAdopted,
-  SameClosed,
   SameStored,
 };
 ghost use Rattle.hub_loop.specs.Closing.{HasRoom};
-ghost use Rattle.hub_loop.specs.Marking.{AreMarked};
+ghost use Rattle.hub_loop.specs.Marking.{MarksKept};
+ghost use Rattle.hub_loop.specs.States.{holding_of};
 ghost use Rattle.hub_ready.specs.Marking.{HasBit};
 
 use crate::closed::ClosedPort;
@@ -67,15 +65,11 @@ impl Holding {
         hub: &Hub,
         queue: HandedQueue,
     ) -> Result<bool, HandedQueue>
-        ensures ok { IfOk result (IsQueueAdopted queue
-            (stored self.old.ends.held self.old.closed)
-            (stored self.new.ends.held self.new.closed)) }
+        ensures ok { IfOk result (IsQueueAdopted queue (holding_of self.old)
+            (holding_of self.new)) }
         ensures back { IfErr result (λ back. back ≡ queue) }
-        ensures err { OnErr result (SameStored (stored self.old.ends.held self.old.closed)
-            (stored self.new.ends.held self.new.closed)) }
-        ensures marked { AreMarked self.old.ends.held self.old.ends.ready
-            self.new.ends.held self.new.ends.ready }
-        ensures next { self.new.ends.next ≡ self.old.ends.next }
+        ensures err { OnErr result (SameStored (holding_of self.old) (holding_of self.new)) }
+        ensures marks { MarksKept self.old.ends self.new.ends }
     {
         let Ok(bell) = self.prepare(queue.end()) else {
             return Err(queue);
@@ -98,11 +92,8 @@ impl Holding {
         ensures held { OnOk result (HasRoomFor self.new.ends.held 1) }
         ensures bit { OnOk result (HasBit self.new.ends.ready.marks self.new.ends.held.vacant_key) }
         ensures room { OnOk result (HasRoom self.new.closed 1) }
-        ensures same { SameValues self.old.ends.held self.new.ends.held }
-        ensures marked { AreMarked self.old.ends.held self.old.ends.ready
-            self.new.ends.held self.new.ends.ready }
-        ensures closed { SameClosed (closed_of self.old.closed) (closed_of self.new.closed) }
-        ensures next { self.new.ends.next ≡ self.old.ends.next }
+        ensures same { SameStored (holding_of self.old) (holding_of self.new) }
+        ensures marks { MarksKept self.old.ends self.new.ends }
     {
         self.ends.make_room(Some(end))?;
         self.closed.reserve(1)?;
@@ -118,11 +109,8 @@ impl Holding {
         receiving: &mut Receiving,
     ) -> Result<bool, OutOfMemory>
         ensures adopted { IsFirstAdopted receiving.old receiving.new
-            (stored self.old.ends.held self.old.closed) (stored self.new.ends.held self.new.closed)
-            result }
-        ensures marked { AreMarked self.old.ends.held self.old.ends.ready
-            self.new.ends.held self.new.ends.ready }
-        ensures next { self.new.ends.next ≡ self.old.ends.next }
+            (holding_of self.old) (holding_of self.new) result }
+        ensures marks { MarksKept self.old.ends self.new.ends }
     {
         let Some(first) = receiving.found.front() else {
             return Ok(false);
@@ -157,11 +145,8 @@ impl Holding {
         receiving: &mut Receiving,
     ) -> Result<(), OutOfMemory>
         ensures adopted { AreAllAdopted receiving.old receiving.new
-            (stored self.old.ends.held self.old.closed) (stored self.new.ends.held self.new.closed)
-            result }
-        ensures marked { AreMarked self.old.ends.held self.old.ends.ready
-            self.new.ends.held self.new.ends.ready }
-        ensures next { self.new.ends.next ≡ self.old.ends.next }
+            (holding_of self.old) (holding_of self.new) result }
+        ensures marks { MarksKept self.old.ends self.new.ends }
     {
         loop {
             match self.adopt_first(rt, hub, receiving) {

@@ -1,5 +1,5 @@
 ghost use Rattle.std.specs.Prelude.{◌≡◌, Some, None};
-ghost use Rattle.hub_loop.specs.Telling.{IsTold};
+ghost use Rattle.hub_loop.specs.Noticing.{IsTold};
 ghost use Rattle.hub_ports.specs.Closing.{IsNoticed};
 ghost use Rattle.hub_ports.specs.Seats.{PortSeat, end_of};
 ghost use Rattle.hub_queue.specs.Ending.{IsClosed};

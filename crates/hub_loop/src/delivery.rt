@@ -1,8 +1,7 @@
 ghost use Rattle.std.specs.Prelude.{◌≡◌, Some, None, IfOk, OnErr};
-ghost use Rattle.hub_loop.specs.Adopting.{stored};
 ghost use Rattle.hub_loop.specs.Delivering.{IsDelivered, IsLookedFor};
-ghost use Rattle.hub_loop.specs.Marking.{AreMarked};
-ghost use Rattle.hub_loop.specs.States.{ReceivingState};
+ghost use Rattle.hub_loop.specs.Marking.{MarksKept};
+ghost use Rattle.hub_loop.specs.States.{holding_of, ReceivingState};
 
 use crate::ends::Holding;
 use crate::handler::Handler;
@@ -84,11 +83,8 @@ impl Undelivered {
         handler: &mut H,
     ) -> Result<(), OutOfMemory>
         ensures delivered { IsDelivered H.leaves H.refuses self.old self.new
-            (stored holding.old.ends.held holding.old.closed)
-            (stored holding.new.ends.held holding.new.closed) handler.old handler.new result }
-        ensures marked { AreMarked holding.old.ends.held holding.old.ends.ready
-            holding.new.ends.held holding.new.ends.ready }
-        ensures next { holding.new.ends.next ≡ holding.old.ends.next }
+            (holding_of holding.old) (holding_of holding.new) handler.old handler.new result }
+        ensures marks { MarksKept holding.old.ends holding.new.ends }
     {
         self.look(rt, hub)?;
         let Some(receiving) = &mut self.arrival else {

@@ -35,20 +35,17 @@ ghost use Rattle.hub_loop.specs.Looping.{
   SameButTurn,
   TakesUp,
 };
-ghost use Rattle.hub_loop.specs.Marking.{AreMarked, AreNewMarked};
-ghost use Rattle.hub_loop.specs.Popping.{PopsEach};
-ghost use Rattle.hub_loop.specs.Resting.{Rests};
-ghost use Rattle.hub_loop.specs.TakingNothing.{Gave, TookNothingBut};
-ghost use Rattle.hub_loop.specs.Turning.{store_of};
+ghost use Rattle.hub_loop.specs.Marking.{AreNewMarked, MarksKept};
+ghost use Rattle.hub_loop.specs.Turning.{PopsEach, Rests, Gave, TookNothingBut};
 ghost use Rattle.hub_loop.specs.declared.handler.Turn.TheVariants.{Ending};
 
-use crate::closing::Shutdown;
 use crate::delivery::Undelivered;
 use crate::ends::Holding;
 use crate::error::LoopError;
 use crate::handler::{Checkpoint, Handler, Turn};
 use crate::held::Held;
 use crate::serving::Served;
+use crate::sweeping::Shutdown;
 use hub_clients::{Directory, HandedQueue};
 use hub_envelope::{AgentId, EndId, OutOfMemory};
 use hub_life::Order;
@@ -117,7 +114,8 @@ impl<H: Handler + Drop, C: Checkpoint + Drop> Drop for EventLoop<H, C> {
 }
 
 impl<H: Handler + Drop, C: Checkpoint + Drop> Model for EventLoop<H, C> {
-    ghost use Rattle.hub_loop.specs.Looping.{LoopState, holding_of};
+    ghost use Rattle.hub_loop.specs.Looping.{LoopState};
+    ghost use Rattle.hub_loop.specs.States.{holding_of};
 
     ghost Value = { LoopState H };
 
@@ -145,7 +143,7 @@ impl<H: Handler + Drop, C: Checkpoint + Drop> EventLoop<H, C> {
         checkpoint: C,
         bell: Listener,
     ) -> Result<EventLoop<H, C>, OutOfMemory>
-        ensures held { IfOk result (λ opened. opened.holding.held.slots ≡ []) }
+        ensures held { IfOk result (λ opened. opened.holding.ends.held.slots ≡ []) }
         ensures kept { IfOk result (λ opened. opened.kept ≡ None) }
         ensures handler { IfOk result (λ opened. opened.handler ≡ handler) }
         ensures order { IfOk result (λ opened. opened.order ≡ order) }
@@ -179,7 +177,8 @@ impl<H: Handler + Drop, C: Checkpoint + Drop> EventLoop<H, C> {
     ) -> Result<Undelivered, bool>
         ensures due { TakesUp self.old self.new steps.old steps.new result }
         ensures keys { self.old.kept ≡ None →
-            length self.old.holding.held.slots ≤ self.old.holding.held.capacity }
+            length self.old.holding.ends.held.slots
+            ≤ self.old.holding.ends.held.capacity }
         ensures kept { self.new.kept ≡ None }
         ensures rest { SameButTaken self.old self.new }
     {
@@ -217,11 +216,10 @@ impl<H: Handler + Drop, C: Checkpoint + Drop> EventLoop<H, C> {
         ensures looked { self.new.order.looks ≡ self.old.order.looks + 1 }
         ensures ending { (result ≡ Ok Ending) ↔ (knows self.new.order ≡ true) }
         ensures turn { MakesTurn H.leaves H.refuses self.old self.new steps.old steps.new result }
-        ensures others { TookNothingBut (Gave self.old.kept self.new.holding.next result)
-            self.old.holding.held self.new.holding.held }
-        ensures marked { AreNewMarked self.old.holding.held self.new.holding.held
-            self.new.holding.ready }
-        ensures pops { PopsEach result self.old.holding.held steps.old steps.new }
+        ensures others { TookNothingBut (Gave self.old.kept self.new.holding.ends.next result)
+            self.old.holding.ends.held self.new.holding.ends.held }
+        ensures marked { AreNewMarked self.old.holding.ends self.new.holding.ends }
+        ensures pops { PopsEach result self.old.holding.ends.held steps.old steps.new }
         ensures rest { SameButTurn self.old self.new }
     {
         if self.order.seen() {
@@ -298,14 +296,11 @@ impl<H: Handler + Drop, C: Checkpoint + Drop> EventLoop<H, C> {
         directory: &Directory,
         end: EndId,
     ) -> Result<bool, LoopError>
-        ensures ok { IfOk result (λ held. IsFetched held
-            (store_of self.old.holding) (store_of self.new.holding) end) }
-        ensures err { OnErr result (SameStored
-            (store_of self.old.holding) (store_of self.new.holding)) }
+        ensures ok { IfOk result (λ held. IsFetched held self.old.holding self.new.holding end) }
+        ensures err { OnErr result (SameStored self.old.holding self.new.holding) }
         ensures others { KeepsOthers end self.old.fetched self.new.fetched }
         ensures kept { OnErr result (KeepsFetched end self.old.fetched self.new.fetched) }
-        ensures marked { AreMarked self.old.holding.held self.old.holding.ready
-            self.new.holding.held self.new.holding.ready }
+        ensures marks { MarksKept self.old.holding.ends self.new.holding.ends }
         ensures rest { SameButFetched self.old self.new }
     {
         self.fetched.reserve(1)?;

@@ -1,20 +1,47 @@
-//! How an end or a line is found by its number, lent and shown.
+//! How an end or a line is held, found by its number, lent, shown and given out.
 
-ghost use Rattle.std.specs.Prelude.{◌≡◌, ◌↔◌, ◌<◌, ℕ, true, IfOk, IfSome, IfNone};
+ghost use Rattle.std.specs.Prelude.{
+  ◌≡◌,
+  ◌↔◌,
+  ◌<◌,
+  ℕ,
+  true,
+  Some,
+  OnOk,
+  IfOk,
+  IfErr,
+  OnErr,
+  IfSome,
+  IfNone,
+};
 ghost use Rattle.std.specs.Option.{option_copied, option_copied_mut};
-ghost use Rattle.slab.specs.Slab.{get};
-ghost use Rattle.hub_loop.specs.Holding.{ends_held};
-ghost use Rattle.hub_loop.specs.Looking.{IsEndOf, IsFound, IsLineTo, IsSlotOf};
-ghost use Rattle.hub_loop.specs.Marking.{AreMarked};
+ghost use Rattle.slab.specs.Slab.{get, HasRoomFor, SameValues};
+ghost use Rattle.hub_loop.specs.Adopting.{HoldsMore};
+ghost use Rattle.hub_loop.specs.Holding.{end_held, ends_held};
+ghost use Rattle.hub_loop.specs.Looking.{HoldsNoEnd, IsEndOf, IsFound, IsLineTo, IsSlotOf};
+ghost use Rattle.hub_loop.specs.Marking.{MarksKept};
 ghost use Rattle.hub_loop.specs.Starting.{IsStartedAs};
-ghost use Rattle.hub_ready.specs.Marking.{mark_of, ClearBetween, IsFirstFrom};
+ghost use Rattle.hub_ready.specs.Marking.{mark_of, ClearBetween, HasBit, IsFirstFrom};
 
 use crate::ends::HeldEnds;
+use crate::error::LoopError;
 use crate::held::{Held, Sought};
 use hub_envelope::{EndId, OutOfMemory};
 use hub_ready::Marks;
 use std::alloc::Global;
 use std::collections::BTreeSet;
+
+/// Lists a line that is to be held under this key.
+fn list_line(
+    lines: &mut BTreeSet<(EndId, usize)>,
+    held: &Held,
+    key: usize,
+) -> Result<(), OutOfMemory> {
+    if let Held::Line(poster) = held {
+        lines.insert((poster.name().end, key))?;
+    }
+    Ok(())
+}
 
 /// The least key that is listed under this number.
 fn key_of(lines: &BTreeSet<(EndId, usize)>, end: EndId) -> Option<usize> {
@@ -55,6 +82,67 @@ pub(crate) fn next_marked(marks: &Marks, low: usize, high: usize) -> Option<usiz
 }
 
 impl HeldEnds {
+    /// Holds one more, for which there is room. An end is marked, since something may wait there.
+    pub(crate) fn put(&mut self, held: Held)
+        requires room { HasRoomFor self.old.held 1 }
+        requires bit { HasBit self.old.ready.marks self.old.held.vacant_key }
+        ensures held { HoldsMore self.old.held self.new.held held }
+        ensures marks { MarksKept self.old self.new }
+    {
+        let end = held.as_end();
+        let key = self.held.insert_reserved(held);
+        if let Some(end) = end {
+            self.ready.place(end, key);
+        }
+    }
+
+    /// Holds one more, under a key where nothing was held. Where there was no memory it comes back.
+    pub(crate) fn hold(&mut self, held: Held) -> Result<(), (LoopError, Held)>
+        ensures ok { OnOk result (HoldsMore self.old.held self.new.held held) }
+        ensures back { IfErr result (λ refused. refused.1 ≡ held) }
+        ensures err { OnErr result (SameValues self.old.held self.new.held) }
+        ensures marks { MarksKept self.old self.new }
+    {
+        if self.make_room(held.as_end()).is_err() {
+            return Err((LoopError::OutOfMemory, held));
+        }
+        if list_line(&mut self.lines, &held, self.held.vacant_key()).is_err() {
+            return Err((LoopError::OutOfMemory, held));
+        }
+        self.put(held);
+        Ok(())
+    }
+
+    /// Makes room for one more that is to be held, an end of this number or a line, and for its
+    /// mark.
+    pub(crate) fn make_room(&mut self, end: Option<EndId>) -> Result<(), OutOfMemory>
+        ensures room { OnOk result (HasRoomFor self.new.held 1) }
+        ensures bit { OnOk result (HasBit self.new.ready.marks self.new.held.vacant_key) }
+        ensures held { SameValues self.old.held self.new.held }
+        ensures marks { MarksKept self.old self.new }
+    {
+        self.held.reserve(1)?;
+        let key = self.held.vacant_key();
+        match end {
+            Some(end) => self.ready.reserve(end, key),
+            None => self.ready.marks.reserve(key),
+        }
+    }
+
+    /// Gives the end of this number out. `None` where it isn't held.
+    pub(crate) fn release(&mut self, end: EndId) -> Option<Held>
+        ensures given { IfSome result (λ held. (end_held held ≡ Some end)
+            × HoldsMore self.new.held self.old.held held) }
+        ensures none { IfNone result (self.new.held ≡ self.old.held) }
+        ensures unchanged { IfNone result (self.new ≡ self.old) }
+        ensures missing { IfNone result (HoldsNoEnd self.old.held end) }
+        ensures marks { MarksKept self.old self.new }
+    {
+        let key = self.find_end(Sought::End, end)?;
+        self.ready.forget(end, key);
+        self.held.try_remove(key)
+    }
+
     /// The marked key under which the end of this kind and number is held.
     fn find_marked(&self, kind: Sought, end: EndId) -> Option<usize>
         ensures some { IfSome result (λ key. IsSlotOf (IsEndOf kind end) (get self.now.held key)) }
@@ -117,8 +205,7 @@ impl HeldEnds {
     /// is held.
     pub(crate) fn start_kind(&mut self, kind: Sought, end: EndId) -> bool
         ensures held { IsStartedAs kind self.old.held self.new.held end result }
-        ensures marked { AreMarked self.old.held self.old.ready self.new.held self.new.ready }
-        ensures next { self.new.next ≡ self.old.next }
+        ensures marks { MarksKept self.old self.new }
     {
         let Some(key) = self.find_end(kind, end) else {
             return false;

@@ -4,9 +4,7 @@
 mod access;
 mod adopting;
 mod closed;
-mod closing;
 mod delivery;
-mod end;
 mod ending;
 mod ends;
 mod error;
@@ -16,11 +14,12 @@ mod handler;
 mod held;
 mod posting;
 mod serving;
+mod sweeping;
 
 pub use closed::{ClosedEnd, ClosedPort};
-pub use closing::Ended;
 pub use error::LoopError;
 pub use event_loop::EventLoop;
 pub use handler::{Checkpoint, Handler, NoCheckpoint, Turn};
 pub use held::Held;
 pub use posting::{FromHeld, Way};
+pub use sweeping::Ended;

@@ -3,6 +3,8 @@
 ghost use Rattle.std.specs.Prelude.{◌≡◌, None, IfNone, IfSome, IsSome};
 ghost use Rattle.hub_loop.specs.Holding.{stand_held};
 ghost use Rattle.hub_loop.specs.Looking.{IsFound, IsWay, LacksWay};
+ghost use Rattle.hub_loop.specs.Looping.{SameButEnds};
+ghost use Rattle.hub_loop.specs.Marking.{SameMarks};
 ghost use Rattle.hub_loop.specs.Posting.{IsPostedOver, PostsThrough};
 ghost use Rattle.hub_ports.specs.Refusing.{LeavesIn, answer_with, carried_body};
 
@@ -84,7 +86,7 @@ impl HeldEnds {
         ensures missing { IfNone result (LacksWay way self.old.held) }
         ensures same { IfNone result (self.new.held ≡ self.old.held) }
         ensures back { IfNone result (parcel.new ≡ parcel.old) }
-        ensures next { self.new.next ≡ self.old.next }
+        ensures marks { SameMarks self.old self.new }
     {
         let key = self.find_way(way)?;
         self.held
@@ -109,15 +111,14 @@ impl<H: Handler + Drop, C: Checkpoint + Drop> EventLoop<H, C> {
     ) -> FromHeld
         requires { IsSome parcel.old.body }
         ensures posted { IfSome result (λ answer. PostsThrough agent (carried_body parcel.old)
-            parcel.old.ports.items way self.old.holding.held self.new.holding.held
+            parcel.old.ports.items way self.old.holding.ends.held self.new.holding.ends.held
             (answer_with answer parcel.new closings.new)) }
         ensures left { IfSome result (λ answer. LeavesIn answer parcel.old parcel.new) }
-        ensures missing { IfNone result (LacksWay way self.old.holding.held) }
-        ensures held { IfNone result (self.new.holding.held ≡ self.old.holding.held) }
+        ensures missing { IfNone result (LacksWay way self.old.holding.ends.held) }
+        ensures held { IfNone result (self.new.holding.ends.held ≡ self.old.holding.ends.held) }
         ensures back { IfNone result (parcel.new ≡ parcel.old) }
-        ensures same { (self.new.holding.next ≡ self.old.holding.next)
-            × (self.new.holding.closed ≡ self.old.holding.closed) }
-        ensures rest { self.new ≡ record self.old { holding = self.new.holding } }
+        ensures marks { SameMarks self.old.holding.ends self.new.holding.ends }
+        ensures rest { SameButEnds self.old self.new }
     {
         let ends = &mut self.holding.ends;
         ends.post(rt, hub, agent, way, parcel, closings)

@@ -2,17 +2,18 @@
 ghost use Rattle.std.specs.Prelude.{◌≡◌, ◌<◌, ◌≤◌, length, IfNone, IfSome, true};
 ghost use Rattle.slab.specs.Slab.{get};
 ghost use Rattle.hub_ready.specs.Marking.{SameBut};
-ghost use Rattle.hub_loop.specs.Scanning.{
+ghost use Rattle.hub_loop.specs.Serving.{
   AreEachServed,
   AreMarkedServed,
   HasWalked,
-  held_ends,
   IsListedAt,
   IsServed,
   IsServedMarked,
   NoneBetween,
+  next_after,
+  served_by,
+  IsAskedAt,
 };
-ghost use Rattle.hub_loop.specs.Serving.{next_after, served_by, IsAskedAt};
 
 use crate::ends::HeldEnds;
 use crate::finding::next_marked;
@@ -134,7 +135,7 @@ impl HeldEnds {
         steps: &mut Steps<L>,
     ) -> Served
         requires { (low ≤ high) × (high ≤ self.old.held.capacity) }
-        ensures walked { HasWalked which low high (held_ends self.old) (held_ends self.new)
+        ensures walked { HasWalked which low high self.old self.new
             steps.old steps.new was result }
         ensures given { IsServedMarked self.new.ready.marks result }
         ensures next { self.new.next ≡ next_after self.old.next result }

@@ -16,10 +16,6 @@ use Rattle.hub_ports.specs.Sending.{IsRefusedAtLine, CameBack, IsUnsent}
 use Rattle.hub_ports.specs.Splitting.{IsSplit}
 use Rattle.hub_ports.proofs.Splits.{split-whole}
 
--- what was refused came back
-pub same_draft : (old new : StandSeat) (sent back draft : Draft) (why : PostError) → IsPosted old new sent (Err (why, back)) → IsRefusedAtLine old new draft why
-same_draft old new sent back draft why h = (h.0, h.1, h.2, h.3, refl, h.5)
-
 -- the error where all ports came back from a line
 whole_line : (old new : StandSeat) (draft : Draft) (ports : List PortSeat) (parcel : Parcel) (closings : List Closing) (why : PostError) → IsRefusedAtLine old new draft why → CameBack draft (carried_body parcel) parcel.ports.items → IsUnsent old new draft ports (error_with (refusal_of why) parcel closings)
 whole_line old new draft ports parcel closings why.Closed h came = (h, came)

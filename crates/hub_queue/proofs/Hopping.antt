@@ -113,14 +113,6 @@ pub is_answered : (old here : StandSeat) (draft : Draft) (answer : Result Posted
 is_answered old here draft (Ok posted) stays put = (put_of old, old.entry.at.enters, inl (stays, refl, refl), put)
 is_answered old here draft (Err refused) stays put = (put_of old, old.entry.at.enters, inl (stays, refl, refl), subst (PutsNothing (put_of old) (put_of here)) (sym put.2) put.0, put.1, subst (λ (e : PostError). IsSeen here old.entry.at.enters e) (sym put.2) tt)
 
--- inside its gate the line stays where it stands
-pub is_put : (old : StandSeat) (name : Key) (rung : Done) (gates : List (Option (EntrySeat LineSeat))) (inside : InsideSeat LineSeat) (entry : Option (EntrySeat LineSeat)) (draft : Draft) (answer : Result Posted (PostError × Draft)) → name ≡ old.name → gates ≡ old.left → old.entry.at.home ≡ Some inside.right → inside.gate ≡ old.entry.gate → IsPutInside inside entry draft answer → IsPosted old (record { name = name; entry = entry_in entry; rung = rung; left = gates }) draft answer
-is_put old name rung gates inside entry draft answer named same home gate (word, right, left, queue, put) =
-    let here : StandSeat = record { name = name; entry = left_seat (with_right inside right) word; rung = rung; left = gates } in
-    let stays : StaysAt old here = record { name = named; gate = gate; queue = queue ∙ sym (ap (λ (h : Option LineSeat). (right_in h).queue) home); left = same } in
-    let kept : IsAnswered (put_of old) right.at draft answer = subst (λ (v : PutView). IsAnswered v right.at draft answer) (sym (ap (λ (h : Option LineSeat). (right_in h).at) home)) put in
-    subst (λ (e : Option (EntrySeat LineSeat)). IsPosted old (record { name = name; entry = entry_in e; rung = rung; left = gates }) draft answer) (sym left) (is_answered old here draft answer stays kept)
-
 module _ (old here : StandSeat) (draft : Draft) (found : Refusal) (tried : IsTried old here draft (Turned found)) where
   goes_from : (new : StandSeat) → GoesTo here new → GoesTo old new
   goes_from new goes = record {
@@ -166,8 +158,3 @@ module _ (old here : StandSeat) (draft : Draft) (found : Refusal) (tried : IsTri
   pub rung_onward : (new : StandSeat) (answer : Result Posted (PostError × Draft)) → IsPostedOnward here new found draft answer → RingsOnward new answer → HasRung old new answer
   rung_onward new (Ok posted) (before, unused, put) rung = (silent, inr (goes_from new unused.goes, refl), rung)
   rung_onward new (Err refused) onward rung = tt
-
--- a post that was let in where its line stands has rung there
-pub rung_here : (old here : StandSeat) (answer : Result Posted PostError) (draft : Draft) → StaysAt old here → RingsTried old here (Answered answer) → HasRung old here (answer_back answer draft)
-rung_here old here (Ok posted) draft stays rung = (old.rung, inl (stays, refl), rung)
-rung_here old here (Err why) draft stays rung = tt

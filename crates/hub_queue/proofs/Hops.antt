@@ -108,11 +108,6 @@ held_by_none (Some now) hops here old new draft (Err refused) answered = subst (
 name_here : (name : Key) → name ≡ name_after name 0
 name_here name = let sum : name.epoch ≡ name.epoch + 0 = omega arith in ap (λ (n : ℕ). record { end = name.end; epoch = n; line = name.line }) sum
 
--- a post that was let in where its line stood went over no yard
-pub hopped_nowhere : (was : Option Yard) (name : Key) (here : StandSeat) (old new : PutView) (draft : Draft) (answer : Result Posted (PostError × Draft)) → here.name ≡ name → IsAnswered old new draft answer → IsHoppedOver was was name here answer
-hopped_nowhere was name here old new draft answer same answered =
-    subst (λ (k : Key). IsHoppedOver was was k here answer) same (hopped was was here.name here 0 answer (name_here here.name) (went_nowhere was here) (held_by_none was 0 here old new draft answer answered))
-
 -- The watch
 
 pub told_twice : (o : Option (List Point)) (xs ys : List Point) → told_more (told_more o xs) ys ≡ told_more o (xs ++ ys)
@@ -125,9 +120,6 @@ told_nothing (Some points) = ap Some (sym (append-nil points))
 
 told_then : (o before after : Option (List Point)) (xs ys : List Point) → before ≡ told_more o xs → after ≡ told_more before ys → after ≡ told_more o (xs ++ ys)
 told_then o before after xs ys first second = second ∙ ap (λ s. told_more s ys) first ∙ told_twice o xs ys
-
-pub told_let_in : (o before after : Option (List Point)) → before ≡ told_more o (Before ∷ []) → after ≡ told_more before points_inside → after ≡ told_more o (Before ∷ points_inside)
-told_let_in o before after first second = told_then o before after (Before ∷ []) points_inside first second
 
 -- of one hop more, and of what was told at the next gate
 pub told_hop : (o before asked after : Option (List Point)) (hops : ℕ) (last : List Point) → before ≡ told_more o (points_hopping hops) → asked ≡ told_more before (Hopping ∷ []) → after ≡ told_more asked (Before ∷ last) → after ≡ told_more o (points_hopping (hops + 1) ++ last)
@@ -153,15 +145,3 @@ told_answered o after from to hops old new draft answer named answered told =
     told
     ∙ ap (λ (l : List Point). told_more o (points_hopping hops ++ l)) (sym (at_last_inside hops old new draft answer answered))
     ∙ ap (λ (h : ℕ). told_more o (points_onward h answer)) (sym many)
-
--- of a whole post that was let in where the line stood
-pub told_here : (o after : Option (List Point)) (name to : Key) (old new : PutView) (draft : Draft) (answer : Result Posted (PostError × Draft)) → to ≡ name → IsAnswered old new draft answer → after ≡ told_more o (Before ∷ points_inside) → after ≡ told_more o (points_of name to answer)
-told_here o after name to old new draft answer same answered inside =
-    let none : hops_between name to ≡ 0 = hops_are name to 0 (same ∙ name_here name) in
-    inside
-    ∙ ap (λ (l : List Point). told_more o (Before ∷ l)) (sym (at_last_inside 0 old new draft answer answered) ∙ ap (λ (h : ℕ). points_onward h answer) (sym none))
-
--- of one that was turned there, and went on
-pub told_onward : (o before after : Option (List Point)) (from name to : Key) (answer : Result Posted (PostError × Draft)) → name ≡ from → before ≡ told_more o (Before ∷ []) → after ≡ told_more before (points_onward (hops_between name to) answer) → after ≡ told_more o (points_of from to answer)
-told_onward o before after from name to answer same was onward =
-    subst (λ (k : Key). after ≡ told_more before (points_onward (hops_between k to) answer)) same onward ∙ ap (λ s. told_more s (points_onward (hops_between from to) answer)) was ∙ told_twice o (Before ∷ []) (points_onward (hops_between from to) answer)

@@ -8,4 +8,4 @@ returns-clause-written g c =
     (entries, all, c.into_log.ensures ∙ written)
 
 pub returns-clause-own : goal.returns-clause-own
-returns-clause-own g c = finish_own c.into_log.result c.args.scribe _ c.log_ended.new.scribe _ _ c.args.event_loop.holding.held c.into_log.ensures refl (c.deref.ensures.value ∙ c.in_ok-held.ensures) refl c.in_ok-log_ended.ensures.own
+returns-clause-own g c = finish_own c.into_log.result c.args.scribe _ c.log_ended.new.scribe _ _ c.args.event_loop.holding.ends.held c.into_log.ensures refl (c.deref.ensures.value ∙ c.in_ok-held.ensures) refl c.in_ok-log_ended.ensures.own

@@ -27,11 +27,11 @@ returns-in-Start-clause-ok g c =
 pub returns-in-Loaded-clause-ok : goal.returns-in-Loaded-clause-ok
 returns-in-Loaded-clause-ok g c =
     let loop = c.start_client.new.self in
-    let now : AgentState = record { notes = c.self.inside.scribe; ends = loop.holding.held; kept = loop.kept; order = c.self.inside.order; peers = c.self.inside.peers.items; life = c.self.inside.life; roster = _ } in
+    let now : AgentState = record { notes = c.self.inside.scribe; ends = loop.holding.ends.held; kept = loop.kept; order = c.self.inside.order; peers = c.self.inside.peers.items; life = c.self.inside.life; roster = _ } in
     subst (λ action. Acts action c.args.self.now now) (sym c.in-Loaded.is)
     (loaded_acts c.in-Loaded.queue c.args.self.now now (
-      λ i. record { notes = (c.self.view_is i).notes; ends = loop.holding.held; kept = (ap (λ l. l.kept) c.start_client.ensures.rest ∙ ap (λ (a : AgentState). a.kept) c.self.view_is) i; order = (c.self.view_is i).order; peers = (c.self.view_is i).peers; life = (c.self.view_is i).life; roster = (c.self.view_is i).roster },
-      (c.start_client.result, subst (λ (a : AgentState). StartsClient a.ends loop.holding.held c.in-Loaded.queue c.start_client.result) c.self.view_is c.start_client.ensures.started),
+      λ i. record { notes = (c.self.view_is i).notes; ends = loop.holding.ends.held; kept = (ap (λ l. l.kept) c.start_client.ensures.rest ∙ ap (λ (a : AgentState). a.kept) c.self.view_is) i; order = (c.self.view_is i).order; peers = (c.self.view_is i).peers; life = (c.self.view_is i).life; roster = (c.self.view_is i).roster },
+      (c.start_client.result, subst (λ (a : AgentState). StartsClient a.ends loop.holding.ends.held c.in-Loaded.queue c.start_client.result) c.self.view_is c.start_client.ensures.started),
     ))
 
 pub returns-in-Close-clause-ok : goal.returns-in-Close-clause-ok
@@ -56,7 +56,7 @@ pub returns-in-Order-clause-ok : goal.returns-in-Order-clause-ok
 returns-in-Order-clause-ok g c =
     let self = c.self-in-Order.inside in
     let was = c.self-in-Order.view_is in
-    let now : AgentState = record { notes = self.scribe; ends = self.event_loop.holding.held; kept = self.event_loop.kept; order = self.order; peers = c.give_order.new.peers.items; life = self.life; roster = _ } in
+    let now : AgentState = record { notes = self.scribe; ends = self.event_loop.holding.ends.held; kept = self.event_loop.kept; order = self.order; peers = c.give_order.new.peers.items; life = self.life; roster = _ } in
     subst (λ action. Acts action c.args.self.now now) (sym c.in-Order.is)
     (ordered_acts c.in-Order.to c.args.self.now now (
     λ i. record { notes = (was i).notes; ends = (was i).ends; kept = (was i).kept; order = (was i).order; peers = (c.give_order.ensures ∙ ap (λ (a : AgentState). with_peer peer_ordered c.in-Order.to.0 a.peers) was) i; life = (was i).life; roster = (was i).roster }
@@ -66,7 +66,7 @@ pub returns-in-Event-clause-ok : goal.returns-in-Event-clause-ok
 returns-in-Event-clause-ok g c =
     let self = c.self-in-Event.inside in
     let was = c.self-in-Event.view_is in
-    let now : AgentState = record { notes = self.scribe; ends = self.event_loop.holding.held; kept = self.event_loop.kept; order = self.order; peers = self.peers.items; life = c.live.new.life; roster = _ } in
+    let now : AgentState = record { notes = self.scribe; ends = self.event_loop.holding.ends.held; kept = self.event_loop.kept; order = self.order; peers = self.peers.items; life = c.live.new.life; roster = _ } in
     subst (λ action. Acts action c.args.self.now now) (sym c.in-Event.is)
     (lived_acts c.in-Event.event c.args.self.now now (
     λ i. record { notes = (was i).notes; ends = (was i).ends; kept = (was i).kept; order = (was i).order; peers = (was i).peers; life = (c.live.ensures ∙ ap (λ (a : AgentState). option_map (λ p. after p c.in-Event.event) a.life) was) i; roster = (was i).roster }

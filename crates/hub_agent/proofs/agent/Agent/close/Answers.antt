@@ -12,12 +12,12 @@ returns-clause-written g c = close_of c.log_closed_end.result c.args.end _ c.sel
 
 pub returns-clause-held : goal.returns-clause-held
 returns-clause-held g c =
-    on_ok c.log_closed_end.result (closed_held c.args.end c.args.self.now _ c.self.inside.event_loop.holding.held _ c.in-Some.closed (ap (λ (a : AgentState). a.ends) c.self.view_is) (ap (λ (a : AgentState). a.roster) c.self.view_is) c.in-Some.ensures.closed)
+    on_ok c.log_closed_end.result (closed_held c.args.end c.args.self.now _ c.self.inside.event_loop.holding.ends.held _ c.in-Some.closed (ap (λ (a : AgentState). a.ends) c.self.view_is) (ap (λ (a : AgentState). a.roster) c.self.view_is) c.in-Some.ensures.closed)
 
 pub returns-clause-own : goal.returns-clause-own
 returns-clause-own g c =
     let entries = closed_entries c.args.end c.in-Some.closed.port in
-    closed_accounts c.log_closed_end.result c.args.self.now (record c.args.self.now { notes = c.log_closed_end.new.scribe; ends = _; kept = _ }) c.self.inside.event_loop.holding.held c.args.end c.in-Some.closed entries (closed_so c.args.end c.in-Some.closed.port)
+    closed_accounts c.log_closed_end.result c.args.self.now (record c.args.self.now { notes = c.log_closed_end.new.scribe; ends = _; kept = _ }) c.self.inside.event_loop.holding.ends.held c.args.end c.in-Some.closed entries (closed_so c.args.end c.in-Some.closed.port)
     (ap (λ (a : AgentState). a.ends) c.self.view_is) c.in-Some.ensures.closed
     (wrote_since c.log_closed_end.result c.self.inside.scribe c.args.self.now.notes c.log_closed_end.new.scribe entries (ap (λ (a : AgentState). a.notes) c.self.view_is) c.log_closed_end.ensures)
     (ap (λ l. l.kept) c.in-Some.ensures.rest ∙ ap (λ (a : AgentState). a.kept) c.self.view_is)

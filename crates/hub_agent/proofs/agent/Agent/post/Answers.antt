@@ -25,7 +25,7 @@ returns-clause-posted g c =
     let notes = ap (λ (a : AgentState). a.notes) c.self.view_is ∙ ap (λ (a : AgentState). a.notes) c.release_ports.ensures.same in
     let parcel = c.post_over-answer.new.parcel in
     let answer = answer_with c.post_over-answer.result parcel c.post_over-answer.new.closings in
-    has_settled c.log_answer-logged.result c.args.way c.as_slice-sent.result.now ends c.agent-agent.result (carried_body sent) c.args.body.now sent.ports parcel.ports.items answer c.args.self.now.ends out.ends c.self.inside.event_loop.holding.held c.post_over-answer.new.event_loop.holding.held c.hold_ports.new.self.ends
+    has_settled c.log_answer-logged.result c.args.way c.as_slice-sent.result.now ends c.agent-agent.result (carried_body sent) c.args.body.now sent.ports parcel.ports.items answer c.args.self.now.ends out.ends c.self.inside.event_loop.holding.ends.held c.post_over-answer.new.event_loop.holding.ends.held c.hold_ports.new.self.ends
     c.args.self.now.notes c.self.inside.scribe c.log_answer-logged.new.scribe c.hold_ports.new.self.notes
     (ap (λ (v : Vec PortSeat Global). ends_of v.items) ports ∙ are) c.as_slice-sent.ensures.listed (c.agent-agent.ensures ∙ ap (λ (n : Notes). n.log.0) notes) (ap lent_list c.new-parcel.ensures.0 ∙ search rules)
     (subst (λ (v : Vec PortSeat Global). TakesOut v.items c.args.self.now.ends out.ends) (sym ports) taken) (ap (λ (a : AgentState). a.ends) c.self.view_is) c.post_over-answer.ensures.sent

@@ -14,6 +14,6 @@ returns-clause-brings g c =
     let put = c.replace_handler-empty.ensures.put in
     let back = c.replace_handler.ensures.put in
     turn_brings _ _ _ c.turn-turn.result c.args.self.now _ c.turn-turn.ensures.turn.2
-    (sym (ap (λ (a : AgentState). a.ends) c.self.view_is) ∙ sym (ap (λ l. l.holding.held) put))
+    (sym (ap (λ (a : AgentState). a.ends) c.self.view_is) ∙ sym (ap (λ l. l.holding.ends.held) put))
     (sym (ap (λ (a : AgentState). a.kept) c.self.view_is) ∙ sym (ap (λ l. l.kept) put))
-    (ap (λ l. l.holding.held) back) (ap (λ l. l.kept) back) c.replace_handler.ensures.given
+    (ap (λ l. l.holding.ends.held) back) (ap (λ l. l.kept) back) c.replace_handler.ensures.given

@@ -22,10 +22,10 @@ loop-preserved g c =
     record {
       turns = subst (TurnsAll now) (sym (ap (λ (a : AgentState). a.notes) c.self.view_is))
           (turns_more now mid c.turn.new.self.notes (not_come c.args.awaited now c.loop.self.notes mid c.loop.invariant.turns came) c.in_ok-turn.ensures.written);
-      own = accounts_kept c.args.self.now c.turn.new.self (record c.turn.new.self { notes = c.self.inside.scribe; ends = c.rest.new.self.holding.held; kept = c.rest.new.self.kept })
+      own = accounts_kept c.args.self.now c.turn.new.self (record c.turn.new.self { notes = c.self.inside.scribe; ends = c.rest.new.self.holding.ends.held; kept = c.rest.new.self.kept })
           (ap (λ (a : AgentState). a.notes) c.self.view_is)
           (ap (λ l. l.kept) c.rest.ensures.same ∙ ap (λ (a : AgentState). a.kept) c.self.view_is)
-          (ap (λ l. l.holding.held) c.rest.ensures.same ∙ ap (λ (a : AgentState). a.ends) c.self.view_is)
+          (ap (λ l. l.holding.ends.held) c.rest.ensures.same ∙ ap (λ (a : AgentState). a.ends) c.self.view_is)
           (accounts_both c.args.self.now c.has_come.new.self c.turn.new.self (accounts_both c.args.self.now c.loop.self c.has_come.new.self c.loop.invariant.own c.in_ok-has_come.ensures.own) c.in_ok-turn.ensures.own);
       rest = search rules;
     }

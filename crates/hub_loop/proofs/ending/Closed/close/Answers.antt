@@ -1,6 +1,6 @@
 use Rattle.std.proofs.Common.{◌∙◌, ◌++◌, ap, append-nil, refl, sym}
 use Rattle.std.specs.Prelude.{option_to_list}
-use Rattle.hub_loop.proofs.Closes.{buries, lines-stay, notices-closed, notices-line}
+use Rattle.hub_loop.proofs.Endings.{buries, lines-stay, notices-closed, notices-line}
 use Rattle.hub_loop.proofs.ending.Closed.close.Goals as goal
 
 pub returns-in-Some-clause-graves : goal.returns-in-Some-clause-graves

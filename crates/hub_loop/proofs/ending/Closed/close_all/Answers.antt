@@ -1,8 +1,7 @@
 use Rattle.std.proofs.Common.{arith}
 use Rattle.std.specs.Vec.Iter.{into_iter_items, into_iter_len}
 use Rattle.hub_loop.specs.Ending.{grave_ends}
-use Rattle.hub_loop.proofs.Closings.{ends-more, next-left}
-use Rattle.hub_loop.proofs.Notices.{told-more}
+use Rattle.hub_loop.proofs.Endings.{ends-more, next-left, told-more}
 use Rattle.hub_loop.proofs.ending.Closed.close_all.Goals as goal
 
 pub loop-opened-preserved : goal.loop-opened-preserved

@@ -2,8 +2,7 @@ use Rattle.std.proofs.Common.{◌≡◌, ◌++◌}
 use Rattle.std.specs.Vec.Iter.{into_iter_items, into_iter_len}
 use Rattle.hub_loop.specs.Closing.{HasRoom}
 use Rattle.hub_loop.specs.Ending.{grave_ends, open_ends}
-use Rattle.hub_loop.specs.Noticing.{ports_in}
-use Rattle.hub_loop.specs.Telling.{NoticesMore}
+use Rattle.hub_loop.specs.Noticing.{ports_in, NoticesMore}
 use Rattle.hub_loop.proofs.ending.Closed.close_all.Given as goal
 
 abbrev pub invariant-loop-opened : goal.invariant-loop-opened

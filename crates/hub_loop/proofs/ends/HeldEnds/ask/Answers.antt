@@ -1,6 +1,6 @@
 use Rattle.std.proofs.Common.{refl, arith}
 use Rattle.hub_ready.specs.declared.ready.Ready.{Ready}
-use Rattle.hub_loop.proofs.Reaches.{asked-cleared, asked-marked}
+use Rattle.hub_loop.proofs.Marks.{asked-cleared, asked-marked}
 use Rattle.hub_loop.proofs.ends.HeldEnds.ask.Goals as goal
 
 pub invariant_of-self-in-Nothing : goal.invariant_of-self-in-Nothing

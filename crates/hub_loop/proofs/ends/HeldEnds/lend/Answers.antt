@@ -2,7 +2,7 @@ use Rattle.std.proofs.Common.{refl, rules}
 use Rattle.std.specs.Prelude.{IsSome}
 use Rattle.slab.specs.Slab.{get}
 use Rattle.hub_ready.specs.declared.ready.Ready.{Ready}
-use Rattle.hub_loop.proofs.Reaches.{lent, all-move, moves-set}
+use Rattle.hub_loop.proofs.Marks.{lent, all-move, moves-set}
 use Rattle.hub_loop.proofs.ends.HeldEnds.lend.Goals as goal
 
 pub invariant_of-self-lent : goal.invariant_of-self-lent

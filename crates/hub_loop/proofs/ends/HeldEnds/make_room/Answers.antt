@@ -4,8 +4,7 @@ use Rattle.slab.specs.Slab.{Slab, get}
 use Rattle.hub_ready.specs.declared.ready.Ready.{Ready}
 use Rattle.hub_ready.specs.Marking.{HasBit}
 use Rattle.hub_loop.specs.declared.held.Held.{Held}
-use Rattle.hub_loop.proofs.Marks.{marked-as, room-grown}
-use Rattle.hub_loop.proofs.Reaches.{same-held}
+use Rattle.hub_loop.proofs.Marks.{marked-as, room-grown, same-held}
 use Rattle.hub_loop.proofs.ends.HeldEnds.make_room.Goals as goal
 
 pub invariant_of-self : goal.invariant_of-self
@@ -41,18 +40,18 @@ pub returns-in-None-clause-bit : goal.returns-in-None-clause-bit
 returns-in-None-clause-bit c =
     subst (λ key. OnOk c.reserve-in-None.result (HasBit c.reserve-in-None.new.self key)) c.vacant_key-key.ensures.value c.reserve-in-None.ensures.ok
 
-pub returns-in_err-reserve-clause-marked : goal.returns-in_err-reserve-clause-marked
-returns-in_err-reserve-clause-marked c =
+pub returns-in_err-reserve-clause-marks : goal.returns-in_err-reserve-clause-marks
+returns-in_err-reserve-clause-marks c =
     let old = c.args.self.now in
-    marked-as old.held c.reserve.new.self old.ready old.ready (λ key. ap (λ (s : Slab Held). get s key) c.reserve.ensures.rest_kept) (λ key. refl)
+    record { marked = marked-as old.held c.reserve.new.self old.ready old.ready (λ key. ap (λ (s : Slab Held). get s key) c.reserve.ensures.rest_kept) (λ key. refl); next = refl }
 
-pub returns-in-Some-clause-marked : goal.returns-in-Some-clause-marked
-returns-in-Some-clause-marked c =
+pub returns-in-Some-clause-marks : goal.returns-in-Some-clause-marks
+returns-in-Some-clause-marks c =
     let old = c.args.self.now in
-    marked-as old.held c.reserve.new.self old.ready c.reserve-in-Some.new.self (λ key. ap (λ (s : Slab Held). get s key) c.reserve.ensures.rest_kept) c.reserve-in-Some.ensures.marks.1
+    record { marked = marked-as old.held c.reserve.new.self old.ready c.reserve-in-Some.new.self (λ key. ap (λ (s : Slab Held). get s key) c.reserve.ensures.rest_kept) c.reserve-in-Some.ensures.marks.1; next = refl }
 
-pub returns-in-None-clause-marked : goal.returns-in-None-clause-marked
-returns-in-None-clause-marked c =
+pub returns-in-None-clause-marks : goal.returns-in-None-clause-marks
+returns-in-None-clause-marks c =
     let old = c.args.self.now in
     let q : Ready = record { marks = c.reserve-in-None.new.self; listed = old.ready.listed } in
-    marked-as old.held c.reserve.new.self old.ready q (λ key. ap (λ (s : Slab Held). get s key) c.reserve.ensures.rest_kept) c.reserve-in-None.ensures.same
+    record { marked = marked-as old.held c.reserve.new.self old.ready q (λ key. ap (λ (s : Slab Held). get s key) c.reserve.ensures.rest_kept) c.reserve-in-None.ensures.same; next = refl }

@@ -1,8 +1,7 @@
-use Rattle.std.proofs.Common.{◌≡◌, ◌∙◌, ap, subst, sym, arith, rules}
+use Rattle.std.proofs.Common.{◌≡◌, ◌∙◌, ap, subst, sym, arith, refl, rules}
 use Rattle.hub_ready.specs.Marking.{HasBit}
 use Rattle.hub_loop.specs.Holding.{end_held}
-use Rattle.hub_loop.proofs.Marks.{marked-but, same-marks}
-use Rattle.hub_loop.proofs.Reaches.{all-but, is-marked, moves-other, moves-same, is-line}
+use Rattle.hub_loop.proofs.Marks.{marked-but, same-marks, all-but, is-marked, moves-other, moves-same, is-line}
 use Rattle.hub_loop.proofs.ends.HeldEnds.put.Goals as goal
 
 pub invariant_of-self : goal.invariant_of-self
@@ -34,23 +33,29 @@ invariant_of-self-in_default c =
           old.reached;
     }
 
-pub returns-in-Some-clause-marked : goal.returns-in-Some-clause-marked
-returns-in-Some-clause-marked c =
+pub returns-in-Some-clause-marks : goal.returns-in-Some-clause-marks
+returns-in-Some-clause-marks c =
     let old = c.args.self.now in
     let key = c.insert_reserved-key.result in
     let bit : HasBit old.ready.marks key = subst (HasBit old.ready.marks) (sym c.insert_reserved-key.ensures.key) c.requires.bit in
-    marked-but old.held c.insert_reserved-key.new.self old.ready c.place.new.self key
-    c.insert_reserved-key.ensures.updates.others
-    c.place.ensures.others
-    (λ held end is number. c.place.ensures.set bit)
+    record {
+      marked = marked-but old.held c.insert_reserved-key.new.self old.ready c.place.new.self key
+          c.insert_reserved-key.ensures.updates.others
+          c.place.ensures.others
+          (λ held end is number. c.place.ensures.set bit);
+      next = refl;
+    }
 
-pub returns-in_default-clause-marked : goal.returns-in_default-clause-marked
-returns-in_default-clause-marked c =
+pub returns-in_default-clause-marks : goal.returns-in_default-clause-marks
+returns-in_default-clause-marks c =
     let old = c.args.self.now in
     let key = c.insert_reserved-key.result in
-    marked-but old.held c.insert_reserved-key.new.self old.ready old.ready key
-    c.insert_reserved-key.ensures.updates.others
-    (same-marks key old.ready.marks)
-    (λ held end is number.
-    let same : held ≡ c.args.held = search rules in
-    absurd (c.in_default.not-Some end (c.as_end-end.ensures ∙ sym (ap end_held same) ∙ number)))
+    record {
+      marked = marked-but old.held c.insert_reserved-key.new.self old.ready old.ready key
+          c.insert_reserved-key.ensures.updates.others
+          (same-marks key old.ready.marks)
+          (λ held end is number.
+          let same : held ≡ c.args.held = search rules in
+          absurd (c.in_default.not-Some end (c.as_end-end.ensures ∙ sym (ap end_held same) ∙ number)));
+      next = refl;
+    }

@@ -1,6 +1,6 @@
 use Rattle.std.proofs.Common.{false, subst}
-use Rattle.hub_loop.specs.Scanning.{AreEachServed, AreMarkedServed}
-use Rattle.hub_loop.proofs.Scans.{served-first, served-last, served-then}
+use Rattle.hub_loop.specs.Serving.{AreEachServed, AreMarkedServed}
+use Rattle.hub_loop.proofs.Serves.{served-first, served-last, served-then}
 use Rattle.hub_loop.proofs.ends.HeldEnds.serve.Goals as goal
 
 pub returns-in_default-clause-served : goal.returns-in_default-clause-served

@@ -1,9 +1,8 @@
 use Rattle.std.proofs.Common.{◌+◌, ◌∙◌, ap, arith, refl, subst}
-use Rattle.hub_loop.specs.Scanning.{held_ends, AreMarkedServed, HasWalked}
-use Rattle.hub_loop.specs.Serving.{next_after}
+use Rattle.hub_loop.specs.Serving.{AreMarkedServed, HasWalked, next_after}
 use Rattle.hub_loop.specs.declared.serving.Served.TheVariants.{Nothing}
 use Rattle.hub_loop.specs.declared.serving.Which.TheVariants.{Each}
-use Rattle.hub_loop.proofs.Scans.{each-given, each-marked, each-none, each-walked}
+use Rattle.hub_loop.proofs.Serves.{each-given, each-marked, each-none, each-walked}
 use Rattle.hub_loop.proofs.ends.HeldEnds.serve_each.Goals as goal
 
 pub parts-init : goal.parts-init
@@ -24,7 +23,7 @@ parts-preserved g c =
     let new = c.serve_marked.new.self in
     let to = c.parts.from + 64 in
     let now = c.in-Nothing.now in
-    let walked = subst (HasWalked Each c.parts.from to (held_ends mid) (held_ends then) c.parts.steps c.walk.new.steps c.parts.busy) c.in-Nothing.is c.walk.ensures.walked in
+    let walked = subst (HasWalked Each c.parts.from to mid then c.parts.steps c.walk.new.steps c.parts.busy) c.in-Nothing.is c.walk.ensures.walked in
     let part = each-walked c.args.low c.parts.from to old mid then c.args.listener.now c.parts.listener c.args.steps.now c.parts.steps c.walk.new.steps c.args.was c.parts.busy (Nothing now) kept.low (omega arith) kept.served walked in
     let marked = subst (AreMarkedServed then new c.parts.listener c.serve_marked.new.listener c.walk.new.steps c.serve_marked.new.steps now) c.in-Nothing-serve_marked.is c.serve_marked.ensures.served in
     record {
@@ -54,7 +53,7 @@ returns-in_default-serve_marked-clause-served g c =
     let new = c.serve_marked.new.self in
     let to = c.parts.from + 64 in
     let now = c.in-Nothing.now in
-    let walked = subst (HasWalked Each c.parts.from to (held_ends mid) (held_ends then) c.parts.steps c.walk.new.steps c.parts.busy) c.in-Nothing.is c.walk.ensures.walked in
+    let walked = subst (HasWalked Each c.parts.from to mid then c.parts.steps c.walk.new.steps c.parts.busy) c.in-Nothing.is c.walk.ensures.walked in
     let part = each-walked c.args.low c.parts.from to old mid then c.args.listener.now c.parts.listener c.args.steps.now c.parts.steps c.walk.new.steps c.args.was c.parts.busy (Nothing now) kept.low (omega arith) kept.served walked in
     each-given c.args.low to c.args.high old new c.args.listener.now c.serve_marked.new.listener c.args.steps.now c.serve_marked.new.steps c.args.was c.serve_marked.result
     (each-marked c.args.low to old then new c.args.listener.now c.parts.listener c.serve_marked.new.listener c.args.steps.now c.walk.new.steps c.serve_marked.new.steps c.args.was now c.serve_marked.result part c.serve_marked.ensures.served)

@@ -1,5 +1,5 @@
 use Rattle.std.proofs.Common.{◌≡◌, ◌≤◌, ◌-◌}
-use Rattle.hub_loop.specs.Scanning.{AreEachServed}
+use Rattle.hub_loop.specs.Serving.{AreEachServed}
 use Rattle.hub_loop.specs.declared.serving.Served.TheVariants.{Nothing}
 use Rattle.hub_loop.proofs.ends.HeldEnds.serve_each.Given as goal
 

@@ -1,6 +1,5 @@
 use Rattle.std.proofs.Common.{◌∙◌, ap, arith, refl, subst, sym}
-use Rattle.hub_loop.specs.Scanning.{held_ends, HasWalked}
-use Rattle.hub_loop.specs.Serving.{next_after, IsAskedAt}
+use Rattle.hub_loop.specs.Serving.{HasWalked, next_after, IsAskedAt}
 use Rattle.hub_loop.proofs.Serves.{given-at, walked-given, walked-more, walked-none, walked-whole}
 use Rattle.hub_loop.proofs.ends.HeldEnds.walk.Goals as goal
 
@@ -8,7 +7,7 @@ pub keys-init : goal.keys-init
 keys-init g c = record {
   low = omega arith;
   high = c.requires.0;
-  walked = walked-none c.args.which c.args.low (held_ends c.args.self.now) c.args.steps.now c.args.was;
+  walked = walked-none c.args.which c.args.low c.args.self.now c.args.steps.now c.args.was;
   next = refl;
   capacity = refl;
 }
@@ -17,14 +16,14 @@ pub keys-preserved : goal.keys-preserved
 keys-preserved g c =
     let kept = c.keys.invariant in
     let first = c.in-Some.ensures.some in
-    let mid = held_ends c.keys.self in
-    let new = held_ends c.ask.new.self in
+    let mid = c.keys.self in
+    let new = c.ask.new.self in
     let key = c.in-Some.key in
     let came = subst (IsAskedAt mid.held new.held key c.keys.steps c.ask.new.steps) c.in-Nothing.is c.ask.ensures.asked in
     record {
       low = omega (arith, kept.low, first.0);
       high = omega (arith, first.1);
-      walked = walked-more c.args.which c.args.low c.keys.from key (held_ends c.args.self.now) mid new c.args.steps.now c.keys.steps c.ask.new.steps c.args.was c.keys.busy c.in-Nothing.here
+      walked = walked-more c.args.which c.args.low c.keys.from key c.args.self.now mid new c.args.steps.now c.keys.steps c.ask.new.steps c.args.was c.keys.busy c.in-Nothing.here
           kept.low first.0 kept.walked first.2 came c.ask.ensures.others;
       next = c.ask.ensures.next ∙ kept.next;
       capacity = c.ask.ensures.capacity ∙ kept.capacity;
@@ -34,9 +33,9 @@ pub returns-in_default-ask : goal.returns-in_default-ask
 returns-in_default-ask g c =
     let kept = c.keys.invariant in
     let first = c.in-Some.ensures.some in
-    let old = held_ends c.args.self.now in
-    let mid = held_ends c.keys.self in
-    let new = held_ends c.ask.new.self in
+    let old = c.args.self.now in
+    let mid = c.keys.self in
+    let new = c.ask.new.self in
     let key = c.in-Some.key in
     let gave = given-at mid.held new.held key c.keys.steps c.ask.new.steps c.ask.result c.ask.ensures.asked c.in_default-ask.not-Nothing in
     let came = subst (IsAskedAt mid.held new.held key c.keys.steps c.ask.new.steps) gave.1 c.ask.ensures.asked in
@@ -52,4 +51,4 @@ returns-in_default-ask g c =
 pub returns-clause-walked : goal.returns-clause-walked
 returns-clause-walked g c =
     let kept = c.keys.invariant in
-    walked-whole c.args.which c.args.low c.keys.from c.args.high (held_ends c.args.self.now) (held_ends c.keys.self) c.args.steps.now c.keys.steps c.args.was c.keys.busy kept.high kept.walked c.in_default.ensures.none
+    walked-whole c.args.which c.args.low c.keys.from c.args.high c.args.self.now c.keys.self c.args.steps.now c.keys.steps c.args.was c.keys.busy kept.high kept.walked c.in_default.ensures.none

@@ -1,6 +1,6 @@
 use Rattle.std.proofs.Common.{◌≡◌, subst, sym}
-use Rattle.hub_loop.specs.Looping.{holding_of}
-use Rattle.hub_loop.proofs.Closes.{if-none}
+use Rattle.hub_loop.specs.States.{holding_of}
+use Rattle.hub_loop.proofs.Endings.{if-none}
 use Rattle.hub_loop.proofs.event_loop.EventLoop.close.Goals as goal
 
 pub returns-in_err-held-clause-none : goal.returns-in_err-held-clause-none

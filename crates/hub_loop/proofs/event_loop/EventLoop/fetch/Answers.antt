@@ -1,22 +1,22 @@
 use Rattle.std.proofs.Common.{inl, subst}
-use Rattle.hub_loop.specs.Adopting.{stored, IsFetched, KeepsFetched, SameStored}
-use Rattle.hub_loop.specs.Marking.{AreMarked}
-use Rattle.hub_loop.specs.Turning.{store_of}
+use Rattle.hub_loop.specs.Adopting.{IsFetched, KeepsFetched, SameStored}
+use Rattle.hub_loop.specs.Marking.{MarksKept}
+use Rattle.hub_loop.specs.States.{holding_of}
 use Rattle.std.specs.Prelude.{false}
-use Rattle.hub_loop.proofs.Adopts.{fetched, fetched-kept, fetched-same, stored-same}
-use Rattle.hub_loop.proofs.Marks.{marked-same}
-use Rattle.hub_loop.proofs.Notices.{on-err}
+use Rattle.hub_loop.proofs.Delivers.{fetched, fetched-kept, fetched-same, stored-same}
+use Rattle.hub_loop.proofs.Marks.{kept_same}
+use Rattle.hub_loop.proofs.Endings.{on-err}
 use Rattle.hub_loop.proofs.event_loop.EventLoop.fetch.Goals as goal
 
 pub returns-in_err-reserve-clause-err : goal.returns-in_err-reserve-clause-err
 returns-in_err-reserve-clause-err g c =
     let held = c.self.inside.holding in
-    on-err c.from_residual.result (subst (λ l. SameStored (store_of l.holding) (stored held.ends.held held.closed)) c.self.view_is (stored-same (stored held.ends.held held.closed)))
+    on-err c.from_residual.result (subst (λ l. SameStored l.holding (holding_of held)) c.self.view_is (stored-same (holding_of held)))
 
-pub returns-in_err-reserve-clause-marked : goal.returns-in_err-reserve-clause-marked
-returns-in_err-reserve-clause-marked g c =
+pub returns-in_err-reserve-clause-marks : goal.returns-in_err-reserve-clause-marks
+returns-in_err-reserve-clause-marks g c =
     let ends = c.self.inside.holding.ends in
-    subst (λ l. AreMarked l.holding.held l.holding.ready ends.held ends.ready) c.self.view_is (marked-same ends.held ends.ready)
+    subst (λ l. MarksKept l.holding.ends ends) c.self.view_is (kept_same ends)
 
 pub returns-in_err-reserve-clause-kept : goal.returns-in_err-reserve-clause-kept
 returns-in_err-reserve-clause-kept g c =
@@ -26,35 +26,20 @@ returns-in_err-reserve-clause-kept g c =
 pub returns-in_default-clause-ok : goal.returns-in_default-clause-ok
 returns-in_default-clause-ok g c =
     let held = c.self.inside.holding in
-    subst (λ l. IsFetched false (store_of l.holding) (stored held.ends.held held.closed) c.args.end) c.self.view_is (inl (stored-same (stored held.ends.held held.closed)))
+    subst (λ l. IsFetched false l.holding (holding_of held) c.args.end) c.self.view_is (inl (stored-same (holding_of held)))
 
-pub returns-in_default-clause-marked : goal.returns-in_default-clause-marked
-returns-in_default-clause-marked g c =
+pub returns-in_default-clause-marks : goal.returns-in_default-clause-marks
+returns-in_default-clause-marks g c =
     let ends = c.self.inside.holding.ends in
-    subst (λ l. AreMarked l.holding.held l.holding.ready ends.held ends.ready) c.self.view_is (marked-same ends.held ends.ready)
+    subst (λ l. MarksKept l.holding.ends ends) c.self.view_is (kept_same ends)
 
 pub returns-in-Ok-clause-ok : goal.returns-in-Ok-clause-ok
 returns-in-Ok-clause-ok g c =
     let old = c.self.inside.holding in
     let new = c.adopt_queue.new.self in
     let is_held = c.in-Ok.is_held in
-    subst (λ l. IsFetched is_held (store_of l.holding) (stored new.ends.held new.closed) c.args.end) c.self.view_is
-    (fetched is_held c.in-Some.queue (stored old.ends.held old.closed) (stored new.ends.held new.closed) c.args.end c.in-Some.ensures.queue c.in-Ok.ensures.ok)
-
-pub returns-in-Ok-clause-marked : goal.returns-in-Ok-clause-marked
-returns-in-Ok-clause-marked g c =
-    let new = c.adopt_queue.new.self.ends in
-    subst (λ l. AreMarked l.holding.held l.holding.ready new.held new.ready) c.self.view_is c.adopt_queue.ensures.marked
-
-pub returns-in-Err-clause-err : goal.returns-in-Err-clause-err
-returns-in-Err-clause-err g c =
-    let new = c.adopt_queue.new.self in
-    subst (λ l. SameStored (store_of l.holding) (stored new.ends.held new.closed)) c.self.view_is c.in-Err.ensures.err
-
-pub returns-in-Err-clause-marked : goal.returns-in-Err-clause-marked
-returns-in-Err-clause-marked g c =
-    let new = c.adopt_queue.new.self.ends in
-    subst (λ l. AreMarked l.holding.held l.holding.ready new.held new.ready) c.self.view_is c.adopt_queue.ensures.marked
+    subst (λ l. IsFetched is_held l.holding (holding_of new) c.args.end) c.self.view_is
+    (fetched is_held c.in-Some.queue (holding_of old) (holding_of new) c.args.end c.in-Some.ensures.queue c.in-Ok.ensures.ok)
 
 pub returns-in-Err-clause-kept : goal.returns-in-Err-clause-kept
 returns-in-Err-clause-kept g c =

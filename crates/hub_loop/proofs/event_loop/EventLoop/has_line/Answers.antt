@@ -7,5 +7,5 @@ use Rattle.hub_loop.proofs.event_loop.EventLoop.has_line.Goals as goal
 
 pub returns-clause-some : goal.returns-clause-some
 returns-clause-some g c found =
-    subst (λ l. (line : StandSeat) × Holds l.holding.held (Line line) × (line.name.end ≡ c.args.end)) c.self.view_is
+    subst (λ l. (line : StandSeat) × Holds l.holding.ends.held (Line line) × (line.name.end ≡ c.args.end)) c.self.view_is
     (line-found c.self.inside.holding.ends.held c.args.end c.find_line.result c.find_line.ensures (sym c.is_some.ensures ∙ found))

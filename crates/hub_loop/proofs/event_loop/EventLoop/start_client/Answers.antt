@@ -1,13 +1,9 @@
 use Rattle.std.proofs.Common.{subst}
-use Rattle.hub_loop.specs.Marking.{AreMarked}
 use Rattle.hub_loop.specs.Starting.{StartsClient}
-use Rattle.hub_loop.proofs.Starts.{starts-client}
+use Rattle.hub_loop.proofs.Looks.{starts-client}
 use Rattle.hub_loop.proofs.event_loop.EventLoop.start_client.Goals as goal
 
 pub returns-clause-started : goal.returns-clause-started
 returns-clause-started g c =
-    subst (λ l. StartsClient l.holding.held c.start_kind.new.self.held c.args.end c.start_kind.result) c.self.view_is
+    subst (λ l. StartsClient l.holding.ends.held c.start_kind.new.self.held c.args.end c.start_kind.result) c.self.view_is
     (starts-client c.self.inside.holding.ends.held c.start_kind.new.self.held c.args.end c.start_kind.result c.start_kind.ensures.held)
-
-pub returns-clause-marked : goal.returns-clause-marked
-returns-clause-marked g c = subst (λ l. AreMarked l.holding.held l.holding.ready c.start_kind.new.self.held c.start_kind.new.self.ready) c.self.view_is c.start_kind.ensures.marked

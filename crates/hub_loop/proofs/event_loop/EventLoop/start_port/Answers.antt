@@ -1,13 +1,9 @@
 use Rattle.std.proofs.Common.{subst}
-use Rattle.hub_loop.specs.Marking.{AreMarked}
 use Rattle.hub_loop.specs.Starting.{StartsPort}
-use Rattle.hub_loop.proofs.Starts.{starts-port}
+use Rattle.hub_loop.proofs.Looks.{starts-port}
 use Rattle.hub_loop.proofs.event_loop.EventLoop.start_port.Goals as goal
 
 pub returns-clause-started : goal.returns-clause-started
 returns-clause-started g c =
-    subst (λ l. StartsPort l.holding.held c.start_kind.new.self.held c.args.end c.start_kind.result) c.self.view_is
+    subst (λ l. StartsPort l.holding.ends.held c.start_kind.new.self.held c.args.end c.start_kind.result) c.self.view_is
     (starts-port c.self.inside.holding.ends.held c.start_kind.new.self.held c.args.end c.start_kind.result c.start_kind.ensures.held)
-
-pub returns-clause-marked : goal.returns-clause-marked
-returns-clause-marked g c = subst (λ l. AreMarked l.holding.held l.holding.ready c.start_kind.new.self.held c.start_kind.new.self.ready) c.self.view_is c.start_kind.ensures.marked

@@ -2,10 +2,10 @@ use Rattle.std.proofs.Common.{◌≡◌, ◌≤◌, List, [], None, Some, length
 use Rattle.std.specs.Prelude.{Ok}
 use Rattle.hub_bell.specs.declared.board.BoardStep.{BoardStep}
 use Rattle.hub_ready.specs.Finding.{HasStepped}
-use Rattle.hub_loop.specs.Looping.{holding_of}
+use Rattle.hub_loop.specs.States.{holding_of}
 use Rattle.hub_loop.specs.Turning.{IsDue}
 use Rattle.hub_loop.proofs.Delivers.{due-given, due-kept, due-nothing}
-use Rattle.hub_loop.proofs.Scans.{no-steps}
+use Rattle.hub_loop.proofs.Serves.{no-steps}
 use Rattle.hub_loop.proofs.event_loop.EventLoop.take_up.Goals as goal
 use Rattle.hub_loop.proofs.event_loop.EventLoop.take_up.Goals.{in-Nothing, in-Given}
 
@@ -19,7 +19,7 @@ returns-in-Some-clause-due g c =
 
 pub returns-clause-keys : goal.returns-clause-keys
 returns-clause-keys g c =
-    subst (λ l. l.kept ≡ None → length l.holding.held.slots ≤ l.holding.held.capacity) c.self.view_is (λ none. c.serve.ensures.keys)
+    subst (λ l. l.kept ≡ None → length l.holding.ends.held.slots ≤ l.holding.ends.held.capacity) c.self.view_is (λ none. c.serve.ensures.keys)
 
 pub returns-clause-due : goal.returns-clause-due
 returns-clause-due g c =

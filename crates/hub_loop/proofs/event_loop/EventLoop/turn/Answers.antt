@@ -1,8 +1,8 @@
 use Rattle.std.proofs.Common.{◌≡◌, ◌∙◌, ◌≤◌, ap, length, subst, refl, None, Some, Ok, Err}
-use Rattle.hub_loop.specs.Adopting.{stored}
 use Rattle.hub_loop.specs.Delivering.{IsDelivered}
-use Rattle.hub_loop.specs.Looping.{holding_of, turn_state}
-use Rattle.hub_loop.specs.Marking.{AreMarked, AreNewMarked}
+use Rattle.hub_loop.specs.Looping.{turn_state}
+use Rattle.hub_loop.specs.Marking.{AreNewMarked, MarksKept}
+use Rattle.hub_loop.specs.States.{holding_of}
 use Rattle.hub_loop.specs.Turning.{IsDue}
 use Rattle.hub_loop.specs.declared.error.LoopError.{LoopError}
 use Rattle.hub_loop.specs.declared.error.LoopError.TheVariants.{OutOfMemory}
@@ -27,7 +27,7 @@ returns-in-Err-clause-marked g c =
     let old = c.args.self.now in
     let inside = c.self.inside in
     let new = c.take_up.new.self.holding in
-    subst (λ l. AreNewMarked l.holding.held new.held new.ready) c.self.view_is
+    subst (λ l. AreNewMarked l.holding.ends new.ends) c.self.view_is
     (marked-none inside.kept (holding_of inside.holding) new c.take_up.ensures.due.0 c.args.steps.now c.take_up.new.steps c.take_up.result c.take_up.ensures.due.2)
 
 pub returns-in-Err-clause-pops : goal.returns-in-Err-clause-pops
@@ -37,7 +37,7 @@ returns-in-Err-clause-pops g c =
     let looks = c.take_up.ensures.due.0 in
     let due = subst (IsDue inside.kept (holding_of inside.holding) c.take_up.new.self.holding looks c.args.steps.now c.take_up.new.steps) c.in-Err.is c.take_up.ensures.due.2 in
     pops-due old.kept c.in-Err.busy old.holding c.take_up.new.self.holding looks c.args.steps.now c.take_up.new.steps
-    (subst (λ l. l.kept ≡ None → length l.holding.held.slots ≤ l.holding.held.capacity) c.self.view_is c.take_up.ensures.keys)
+    (subst (λ l. l.kept ≡ None → length l.holding.ends.held.slots ≤ l.holding.ends.held.capacity) c.self.view_is c.take_up.ensures.keys)
     (subst (λ l. IsDue l.kept l.holding c.take_up.new.self.holding looks c.args.steps.now c.take_up.new.steps (Err c.in-Err.busy)) c.self.view_is due)
 
 pub returns-in-Ok-deliver-clause-turn : goal.returns-in-Ok-deliver-clause-turn
@@ -50,15 +50,15 @@ returns-in-Ok-deliver-clause-turn g c =
     let did = c.in-Ok-deliver.ensures.delivered in
     let told = subst (λ h. g.H.Handler.leaves h c.in-Ok.delivery.envelope did.1 c.deliver.new.handler) handler did.4 in
     let none : after.kept ≡ None = ap (λ l. l.kept) c.self-2.view_is ∙ c.take_up.ensures.kept in
-    (looks, stepped, (c.in-Ok.delivery, c.deliver.new.self, holding_of after.holding, due, (did.0, did.1, did.2, did.3, told), none, c.deliver.ensures.next))
+    (looks, stepped, (c.in-Ok.delivery, c.deliver.new.self, holding_of after.holding, due, (did.0, did.1, did.2, did.3, told), none, c.deliver.ensures.marks.next))
 
 pub returns-in-Ok-deliver-clause-marked : goal.returns-in-Ok-deliver-clause-marked
 returns-in-Ok-deliver-clause-marked g c =
     let inside = c.self.inside in
     let new = c.deliver.new.holding.ends in
-    subst (λ l. AreNewMarked l.holding.held new.held new.ready) c.self.view_is
-    (marked-due inside.kept (holding_of inside.holding) c.take_up.new.self.holding new.held new.ready c.take_up.ensures.due.0 c.args.steps.now c.take_up.new.steps c.take_up.result c.take_up.ensures.due.2
-    (subst (λ l. AreMarked l.holding.held l.holding.ready new.held new.ready) c.self-2.view_is c.deliver.ensures.marked))
+    subst (λ l. AreNewMarked l.holding.ends new) c.self.view_is
+    (marked-due inside.kept (holding_of inside.holding) c.take_up.new.self.holding new c.take_up.ensures.due.0 c.args.steps.now c.take_up.new.steps c.take_up.result c.take_up.ensures.due.2
+    (subst (λ l. MarksKept l.holding.ends new) c.self-2.view_is c.deliver.ensures.marks))
 
 pub returns-in-Ok-deliver-clause-others : goal.returns-in-Ok-deliver-clause-others
 returns-in-Ok-deliver-clause-others g c =
@@ -74,16 +74,16 @@ returns-in-Err-deliver-clause-turn g c =
     let looks = c.take_up.ensures.due.0 in
     let (stepped, due) = taken-up _ old _ c.take_up.new.self looks c.args.steps.now c.take_up.new.steps c.take_up.result (Ok c.in-Ok.delivery) c.self.view_is c.self-2.view_is c.take_up.ensures.due.1 c.in-Ok.is c.take_up.ensures.due.2 in
     let handler : after.handler ≡ old.handler = ap (λ l. l.handler) c.self-2.view_is ∙ ap (λ l. l.handler) c.take_up.ensures.rest ∙ ap (λ l. l.handler) c.self.view_is in
-    let did = subst (λ h. IsDelivered {E = LoopError} g.H.Handler.leaves g.H.Handler.refuses c.in-Ok.delivery c.deliver.new.self (stored after.holding.ends.held after.holding.closed) (stored c.deliver.new.holding.ends.held c.deliver.new.holding.closed) h c.deliver.new.handler (Err OutOfMemory)) handler c.in-Err-deliver.ensures.delivered in
-    (looks, stepped, (c.in-Ok.delivery, c.deliver.new.self, holding_of after.holding, due, did, refl, c.deliver.ensures.next))
+    let did = subst (λ h. IsDelivered {E = LoopError} g.H.Handler.leaves g.H.Handler.refuses c.in-Ok.delivery c.deliver.new.self (holding_of after.holding) (holding_of c.deliver.new.holding) h c.deliver.new.handler (Err OutOfMemory)) handler c.in-Err-deliver.ensures.delivered in
+    (looks, stepped, (c.in-Ok.delivery, c.deliver.new.self, holding_of after.holding, due, did, refl, c.deliver.ensures.marks.next))
 
 pub returns-in-Err-deliver-clause-marked : goal.returns-in-Err-deliver-clause-marked
 returns-in-Err-deliver-clause-marked g c =
     let inside = c.self.inside in
     let new = c.deliver.new.holding.ends in
-    subst (λ l. AreNewMarked l.holding.held new.held new.ready) c.self.view_is
-    (marked-due inside.kept (holding_of inside.holding) c.take_up.new.self.holding new.held new.ready c.take_up.ensures.due.0 c.args.steps.now c.take_up.new.steps c.take_up.result c.take_up.ensures.due.2
-    (subst (λ l. AreMarked l.holding.held l.holding.ready new.held new.ready) c.self-2.view_is c.deliver.ensures.marked))
+    subst (λ l. AreNewMarked l.holding.ends new) c.self.view_is
+    (marked-due inside.kept (holding_of inside.holding) c.take_up.new.self.holding new c.take_up.ensures.due.0 c.args.steps.now c.take_up.new.steps c.take_up.result c.take_up.ensures.due.2
+    (subst (λ l. MarksKept l.holding.ends new) c.self-2.view_is c.deliver.ensures.marks))
 
 pub returns-in-Err-deliver-clause-others : goal.returns-in-Err-deliver-clause-others
 returns-in-Err-deliver-clause-others g c =

@@ -1,6 +1,6 @@
 use Rattle.std.proofs.Common.{◌≡◌, ◌∙◌, ◌++◌, ◌∷◌, [], subst, Some}
-use Rattle.hub_loop.proofs.Sweeps.{swept-one, taken-off}
-use Rattle.hub_loop.proofs.closing.sweep_all.Goals as goal
+use Rattle.hub_loop.proofs.Endings.{swept-one, taken-off}
+use Rattle.hub_loop.proofs.sweeping.sweep_all.Goals as goal
 
 pub loop-swept-preserved : goal.loop-swept-preserved
 loop-swept-preserved g c =

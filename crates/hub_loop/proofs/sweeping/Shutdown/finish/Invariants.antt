@@ -1,6 +1,6 @@
 use Rattle.hub_loop.specs.Ending.{closing_ends}
 use Rattle.hub_loop.specs.Noticing.{NamedBehind}
-use Rattle.hub_loop.proofs.closing.Shutdown.finish.Given as goal
+use Rattle.hub_loop.proofs.sweeping.Shutdown.finish.Given as goal
 
 abbrev pub invariant-loop : goal.invariant-loop
 invariant-loop g l =

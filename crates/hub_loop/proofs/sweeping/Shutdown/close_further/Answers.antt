@@ -1,8 +1,8 @@
 use Rattle.std.proofs.Common.{◌++◌, refl, subst}
 use Rattle.hub_loop.specs.Ending.{closing_ends, grave_ends, swept_ends}
 use Rattle.hub_loop.specs.Noticing.{NamedBehind}
-use Rattle.hub_loop.proofs.Sweeps.{behind-swept}
-use Rattle.hub_loop.proofs.closing.Shutdown.close_further.Goals as goal
+use Rattle.hub_loop.proofs.Endings.{behind-swept}
+use Rattle.hub_loop.proofs.sweeping.Shutdown.close_further.Goals as goal
 
 pub returns-in_err-close_found-clause-further : goal.returns-in_err-close_found-clause-further
 returns-in_err-close_found-clause-further g c =

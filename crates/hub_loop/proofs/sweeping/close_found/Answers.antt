@@ -1,8 +1,8 @@
 use Rattle.std.proofs.Common.{[], ap}
 use Rattle.hub_loop.specs.Ending.{grave_ends}
 use Rattle.hub_loop.specs.declared.closed.ClosedPort.{ClosedPort}
-use Rattle.hub_loop.proofs.Notices.{behind-one, notices-one, push-same}
-use Rattle.hub_loop.proofs.closing.close_found.Goals as goal
+use Rattle.hub_loop.proofs.Endings.{behind-one, notices-one, push-same}
+use Rattle.hub_loop.proofs.sweeping.close_found.Goals as goal
 
 pub loop-graves-preserved : goal.loop-graves-preserved
 loop-graves-preserved g c =

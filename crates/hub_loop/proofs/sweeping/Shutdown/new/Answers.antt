@@ -2,8 +2,8 @@ use Rattle.std.proofs.Common.{rules, sym, subst}
 use Rattle.std.specs.List.Sorted.{IsNonDecreasing, IsPermutation}
 use Rattle.std.proofs.lemmas.List.Sorted.{IsNonDecreasingBy-from_sort_by_key, IsPermutation-map}
 use Rattle.hub_loop.specs.Ending.{grave_ends}
-use Rattle.hub_loop.proofs.Closings.{rises}
-use Rattle.hub_loop.proofs.closing.Shutdown.new.Goals as goal
+use Rattle.hub_loop.proofs.Endings.{rises}
+use Rattle.hub_loop.proofs.sweeping.Shutdown.new.Goals as goal
 
 pub returns-clause-sorted : goal.returns-clause-sorted
 returns-clause-sorted c =

@@ -1,6 +1,6 @@
 use Rattle.hub_loop.specs.Ending.{closing_ends}
-use Rattle.hub_loop.proofs.Notices.{behind-twice}
-use Rattle.hub_loop.proofs.closing.Shutdown.finish.Goals as goal
+use Rattle.hub_loop.proofs.Endings.{behind-twice}
+use Rattle.hub_loop.proofs.sweeping.Shutdown.finish.Goals as goal
 
 pub returns-in_err-close_further-clause-further : goal.returns-in_err-close_further-clause-further
 returns-in_err-close_further-clause-further g c =
