@@ -6,8 +6,7 @@ use Rattle.hub_depot.specs.declared.kept.Key.{Key}
 use Rattle.hub_envelope.specs.declared.envelope.Draft.{Draft}
 use Rattle.hub_gate.specs.declared.entry.Refusal.{Refusal}
 use Rattle.hub_gate.specs.declared.entry.Refusal.TheVariants as refusal
-use Rattle.hub_gate.specs.Entering.{left_seat}
-use Rattle.hub_gate.specs.GateSeats.{EntrySeat, InsideSeat, with_right}
+use Rattle.hub_gate.specs.GateSeats.{EntrySeat}
 use Rattle.hub_envelope.specs.declared.ids.EndId.{EndId}
 use Rattle.hub_queue.specs.declared.line_right.Head.{Head}
 use Rattle.hub_queue.specs.declared.store.PutView.{PutView}
@@ -17,10 +16,10 @@ use Rattle.hub_queue.specs.declared.error.PostError.{PostError}
 use Rattle.hub_queue.specs.Posting.{StaysAt, name_after, HasPassed, LeavesBehind, GoesTo, HasSeen, IsSeen, PutsNothing, IsPosted}
 use Rattle.hub_queue.specs.Putting.{answer_back, lent_draft}
 use Rattle.hub_queue.specs.Seats.{LineSeat, IsNameOf}
-use Rattle.hub_bell.specs.Seats.{Done, silent}
-use Rattle.hub_queue.specs.Rings.{HasRung, RingsOnward, RingsTried}
-use Rattle.hub_queue.specs.Standing.{StandSeat, FollowsStand, HasNotPushed, put_of, right_in, right_of, entry_in}
-use Rattle.hub_queue.specs.Trying.{IsAnswered, IsPutInside, IsTried, gone_to, GoesToUnused, IsPostedOnward, error_of}
+use Rattle.hub_bell.specs.Seats.{silent}
+use Rattle.hub_queue.specs.Rings.{HasRung, RingsOnward}
+use Rattle.hub_queue.specs.Standing.{StandSeat, FollowsStand, HasNotPushed, put_of, right_of}
+use Rattle.hub_queue.specs.Trying.{IsAnswered, IsTried, gone_to, GoesToUnused, IsPostedOnward, error_of}
 
 -- what is lent is the same draft for as long as it is the same
 pub same_lent : (head : Head) {body was : Option (List ℕ)} {ports were : Option (List EndId)} → body ≡ was → ports ≡ were → lent_draft head body ports ≡ lent_draft head was were

@@ -16,7 +16,7 @@ use Rattle.hub_queue.specs.declared.error.PostError.{PostError}
 use Rattle.hub_queue.specs.Posting.{StaysAt, name_after}
 use Rattle.hub_queue.specs.Standing.{StandSeat, FollowsStand}
 use Rattle.hub_queue.specs.Trying.{IsAnswered, gone_to}
-use Rattle.hub_queue.specs.Watching.{told_more, points_inside, points_hopping, points_refused, points_at_last, points_onward, points_of}
+use Rattle.hub_queue.specs.Watching.{told_more, points_inside, points_hopping, points_refused, points_at_last, points_onward}
 use Rattle.hub_queue.specs.Yards.{Yard, hops_between, without_next, IsStandOf, GoesNoFurther, IsHeldBack, IsHoppedOver}
 
 -- The yard: what is left of it after so many hops
@@ -105,9 +105,6 @@ held_by_none None hops here old new draft answer answered = tt
 held_by_none (Some now) hops here old new draft (Ok posted) answered = tt
 held_by_none (Some now) hops here old new draft (Err refused) answered = subst (GoesNoFurther now hops here) (sym answered.2) tt
 
-name_here : (name : Key) → name ≡ name_after name 0
-name_here name = let sum : name.epoch ≡ name.epoch + 0 = omega arith in ap (λ (n : ℕ). record { end = name.end; epoch = n; line = name.line }) sum
-
 -- The watch
 
 pub told_twice : (o : Option (List Point)) (xs ys : List Point) → told_more (told_more o xs) ys ≡ told_more o (xs ++ ys)
@@ -117,9 +114,6 @@ told_twice (Some points) xs ys = ap Some (append_assoc points xs ys)
 pub told_nothing : (o : Option (List Point)) → o ≡ told_more o []
 told_nothing None = refl
 told_nothing (Some points) = ap Some (sym (append-nil points))
-
-told_then : (o before after : Option (List Point)) (xs ys : List Point) → before ≡ told_more o xs → after ≡ told_more before ys → after ≡ told_more o (xs ++ ys)
-told_then o before after xs ys first second = second ∙ ap (λ s. told_more s ys) first ∙ told_twice o xs ys
 
 -- of one hop more, and of what was told at the next gate
 pub told_hop : (o before asked after : Option (List Point)) (hops : ℕ) (last : List Point) → before ≡ told_more o (points_hopping hops) → asked ≡ told_more before (Hopping ∷ []) → after ≡ told_more asked (Before ∷ last) → after ≡ told_more o (points_hopping (hops + 1) ++ last)
