@@ -20,5 +20,5 @@ known r = record { script = r.script; names = λ n. get_by_text r.names n; holds
 
 -- After the call the reader knows what is read. Or the call told what is wrong, or that memory ran out, which says
 -- nothing of the script.
-abbrev pub Becomes : ScriptReader → ScriptRead ⊤ → ScriptRead Known → Type 0
-Becomes new result read = IsReadAs OutOfMemory (λ _. known new) result read
+abbrev pub ReadsTo : ScriptReader → ScriptRead ⊤ → ScriptRead Known → Type 0
+ReadsTo new result read = IsReadAs OutOfMemory (λ _. known new) result read

@@ -30,13 +30,13 @@ fn body_or(answer: Result<Body, BodyError>) -> Result<Body, ScriptError>
 }
 
 impl ScriptReader {
-    ghost use Rattle.hub_script.specs.Reader.{Becomes, known};
+    ghost use Rattle.hub_script.specs.Reader.{ReadsTo, known};
 
     /// Adds what a script line of that form says, or answers the first test that it fails. After an
     /// error nothing is known of the reader.
     #[tactic(auto, unfolding(crate::specs::Context::after_form))]
     pub(crate) fn add_form(&mut self, alloc: Global, form: Form) -> Result<(), ScriptError>
-        ensures { Becomes self.new result (after_form (known self.old) form) }
+        ensures { ReadsTo self.new result (after_form (known self.old) form) }
     {
         self.test(&form)?;
         self.add(alloc, form)
@@ -45,7 +45,7 @@ impl ScriptReader {
     fn add(&mut self, alloc: Global, form: Form) -> Result<(), ScriptError>
         requires room { has_room (known self.old) ≡ true }
         requires within { is_within (known self.old) form ≡ true }
-        ensures { Becomes self.new result (adding (known self.old) form) }
+        ensures { ReadsTo self.new result (adding (known self.old) form) }
     {
         match form {
             Form::Agent { kind, origin } => self.add_agent(kind, origin),
@@ -65,7 +65,7 @@ impl ScriptReader {
     ) -> Result<(), ScriptError>
         requires room { has_room (known self.old) ≡ true }
         requires seat { length (declared_agents (known self.old).script) < MAX_AGENTS }
-        ensures { Becomes self.new result (adding_agent (known self.old) kind origin) }
+        ensures { ReadsTo self.new result (adding_agent (known self.old) kind origin) }
     {
         let Ok(origin) = origin else {
             return Err(ScriptError::Syntax);
@@ -82,7 +82,7 @@ impl ScriptReader {
         at: u32,
     ) -> Result<(), ScriptError>
         requires { has_room (known self.old) ≡ true }
-        ensures { Becomes self.new result (adding_channel (known self.old) first second at) }
+        ensures { ReadsTo self.new result (adding_channel (known self.old) first second at) }
     {
         let at = self.agent_of(at)?;
         let (port, other) = self.next_ports();
@@ -100,7 +100,7 @@ impl ScriptReader {
         on: Text,
     ) -> Result<(), ScriptError>
         requires { has_room (known self.old) ≡ true }
-        ensures { Becomes self.new result (adding_member (known self.old) name at on) }
+        ensures { ReadsTo self.new result (adding_member (known self.old) name at on) }
     {
         let at = self.agent_of(at)?;
         let member = self.next_member();
@@ -116,7 +116,7 @@ impl ScriptReader {
     ) -> Result<(), ScriptError>
         requires room { has_room (known self.old) ≡ true }
         requires few { length (transferred action) ≤ MAX_PORTS }
-        ensures { Becomes self.new result (adding_action (known self.old) agent action) }
+        ensures { ReadsTo self.new result (adding_action (known self.old) agent action) }
     {
         match action {
             ActionForm::Post {
@@ -164,7 +164,7 @@ impl ScriptReader {
     ) -> Result<(), ScriptError>
         requires room { has_room (known self.old) ≡ true }
         requires few { length transfer.now ≤ MAX_PORTS }
-        ensures { Becomes self.new result
+        ensures { ReadsTo self.new result
             (posting (known self.old) agent port.now body transfer.now) }
     {
         let source = self.named_end(port)?;
@@ -195,7 +195,7 @@ impl ScriptReader {
     ) -> Result<(), ScriptError>
         requires room { has_room (known self.old) ≡ true }
         requires few { length transfer.now ≤ MAX_PORTS }
-        ensures { Becomes self.new result (sending (known self.old) agent to body transfer.now) }
+        ensures { ReadsTo self.new result (sending (known self.old) agent to body transfer.now) }
     {
         let queue = queue_of(self.agent_of(to)?);
         let ports = self.ends_named(alloc, transfer)?;
@@ -221,7 +221,7 @@ impl ScriptReader {
         body: Result<Body, BodyError>,
     ) -> Result<(), ScriptError>
         requires { has_room (known self.old) ≡ true }
-        ensures { Becomes self.new result (casting (known self.old) agent member.now body) }
+        ensures { ReadsTo self.new result (casting (known self.old) agent member.now body) }
     {
         let named = self.named_end(member)?;
         let body = body_or(body)?;
@@ -231,7 +231,7 @@ impl ScriptReader {
 
     fn add_start(&mut self, agent: AgentId, name: &Text) -> Result<(), ScriptError>
         requires { has_room (known self.old) ≡ true }
-        ensures { Becomes self.new result
+        ensures { ReadsTo self.new result
             (adding_action (known self.old) agent (ActionForm.Start name.now)) }
     {
         let end = self.start_of(agent, name)?;
@@ -251,7 +251,7 @@ impl ScriptReader {
 
     fn add_close(&mut self, agent: AgentId, name: &Text) -> Result<(), ScriptError>
         requires { has_room (known self.old) ≡ true }
-        ensures { Becomes self.new result
+        ensures { ReadsTo self.new result
             (adding_action (known self.old) agent (ActionForm.Close name.now)) }
     {
         let named = self.named_end(name)?;
@@ -263,7 +263,7 @@ impl ScriptReader {
 
     fn add_receive(&mut self, agent: AgentId, name: &Text) -> Result<(), ScriptError>
         requires { has_room (known self.old) ≡ true }
-        ensures { Becomes self.new result
+        ensures { ReadsTo self.new result
             (adding_action (known self.old) agent (ActionForm.Receive name.now)) }
     {
         let named = self.named_end(name)?;

@@ -50,7 +50,7 @@ impl Script {
 }
 
 impl ScriptReader {
-    ghost use Rattle.hub_script.specs.Reader.{Becomes, known};
+    ghost use Rattle.hub_script.specs.Reader.{ReadsTo, known};
 
     fn add_line(
         &mut self,
@@ -58,7 +58,7 @@ impl ScriptReader {
         scratch: &mut Scratch,
         line: &[u8],
     ) -> Result<(), ScriptError>
-        ensures says { Becomes self.new result (after_line (known self.old) line.now) }
+        ensures says { ReadsTo self.new result (after_line (known self.old) line.now) }
         ensures memory { IfErr result
             (λ e. e ≡ ScriptError.OutOfMemory → is_utf8 line.now ≡ true) }
     {

@@ -78,7 +78,7 @@ pub(crate) fn queue_of(agent: AgentId) -> EndId
 }
 
 impl ScriptReader {
-    ghost use Rattle.hub_script.specs.Reader.{Becomes, known};
+    ghost use Rattle.hub_script.specs.Reader.{ReadsTo, known};
 
     pub(crate) fn new(alloc: Global) -> ScriptReader
         ensures { known result ≡ nothing }
@@ -291,7 +291,7 @@ impl ScriptReader {
     pub(crate) fn push_agent(&mut self, agent: DeclaredAgent) -> Result<(), ScriptError>
         requires room { has_room (known self.old) ≡ true }
         requires seat { length (declared_agents (known self.old).script) < MAX_AGENTS }
-        ensures { Becomes self.new result
+        ensures { ReadsTo self.new result
             (Ok (with_script (known self.old) (with_declared (known self.old).script agent))) }
     {
         self.script.push_agent(agent)?;
@@ -300,7 +300,7 @@ impl ScriptReader {
 
     pub(crate) fn push_channel(&mut self, channel: DeclaredChannel) -> Result<(), ScriptError>
         requires { has_room (known self.old) ≡ true }
-        ensures { Becomes self.new result
+        ensures { ReadsTo self.new result
             (Ok (with_script (known self.old) (with_channel (known self.old).script channel))) }
     {
         self.script.push_channel(channel)?;
@@ -309,7 +309,7 @@ impl ScriptReader {
 
     pub(crate) fn push_member(&mut self, member: DeclaredMember) -> Result<(), ScriptError>
         requires { has_room (known self.old) ≡ true }
-        ensures { Becomes self.new result
+        ensures { ReadsTo self.new result
             (Ok (with_script (known self.old) (with_member (known self.old).script member))) }
     {
         self.script.push_member(member)?;
@@ -319,7 +319,7 @@ impl ScriptReader {
     /// Adds a script line, which is the action of the agent.
     pub(crate) fn act(&mut self, at: AgentId, kind: ActionKind) -> Result<(), ScriptError>
         requires { has_room (known self.old) ≡ true }
-        ensures { Becomes self.new result (Ok (acting (known self.old) at kind)) }
+        ensures { ReadsTo self.new result (Ok (acting (known self.old) at kind)) }
     {
         self.script.push_action(Action { at, kind })?;
         Ok(())
@@ -327,7 +327,7 @@ impl ScriptReader {
 
     /// The agent holds the name from now on.
     pub(crate) fn take(&mut self, agent: AgentId, named: NamedEnd) -> Result<(), ScriptError>
-        ensures { Becomes self.new result
+        ensures { ReadsTo self.new result
             (Ok (with_holds (known self.old) (taking_more (holding agent named)))) }
     {
         self.held.insert(NameHolder::of(agent, named))?;
@@ -354,7 +354,7 @@ impl ScriptReader {
 
     /// The agent has handed its queue on.
     pub(crate) fn hand(&mut self, agent: AgentId) -> Result<(), ScriptError>
-        ensures { Becomes self.new result (Ok (with_handed (known self.old) agent.0)) }
+        ensures { ReadsTo self.new result (Ok (with_handed (known self.old) agent.0)) }
     {
         self.handed.insert(u32::from(agent.0))?;
         Ok(())
@@ -368,14 +368,14 @@ impl ScriptReader {
         named: NamedEnd,
         agent: AgentId,
     ) -> Result<(), ScriptError>
-        ensures { Becomes self.new result (Ok (declaring (known self.old) name.now named agent)) }
+        ensures { ReadsTo self.new result (Ok (declaring (known self.old) name.now named agent)) }
     {
         self.set_name(alloc, name, named)?;
         self.take(agent, named)
     }
 
     fn set_name(&mut self, alloc: Global, name: &Text, named: NamedEnd) -> Result<(), ScriptError>
-        ensures { Becomes self.new result
+        ensures { ReadsTo self.new result
             (Ok (with_names (known self.old) (naming_more name.now named (known self.old).names))) }
     {
         let key = String::from_str(alloc, name.as_str())?;
