@@ -32,7 +32,7 @@ use Rattle.hub_trace.specs.declared.log_entry.LogEntry.TheVariants.{Put, Adopted
 use Rattle.hub_agent.specs.Agents.{AgentState, CastsFrom}
 use Rattle.hub_agent.specs.Casting.{HasCast}
 use Rattle.hub_agent.specs.Entries.{AreAdoptions, AreClosings, IsCastLogged, IsCloseLogged, IsClosing, IsPostLogged, WritesEntries, answer_entries, cast_entries, closed_entries, closing_entries, doomed_entries, log_and, outcome_entries}
-use Rattle.hub_agent.proofs.Writing.{writes_both, writes_same}
+use Rattle.hub_agent.proofs.Writing.{writes_both}
 
 -- these ends were adopted, and nothing else is written
 abbrev pub Adopts : List EndId → Notes → Notes → Type 0

@@ -102,6 +102,7 @@ impl Holding {
 
     /// Adopts the first of the ports that were found and holds it. One that was adopted too often,
     /// or whose number the yard knows already, is closed and counts as missing.
+    #[tactic(auto, using(crate::proofs::Marks::kept_same))]
     fn adopt_first<R: Wait>(
         &mut self,
         rt: &R,

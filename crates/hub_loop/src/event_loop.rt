@@ -289,6 +289,7 @@ impl<H: Handler + Drop, C: Checkpoint + Drop> EventLoop<H, C> {
     /// False where no such queue waits, and where it was adopted too often or the yard knows its
     /// number already: then it was closed. After `OutOfMemory` it is handed still, or the loop
     /// keeps it for the next call.
+    #[tactic(auto, using(crate::proofs::Marks::kept_same))]
     pub fn fetch<R: Wait>(
         &mut self,
         rt: &R,

@@ -5,14 +5,8 @@ use Rattle.hub_loop.specs.declared.held.Held.TheVariants.{Port}
 use Rattle.hub_ports.specs.Adopting.{IsReceived}
 use Rattle.std.specs.Prelude.{Err}
 use Rattle.hub_loop.proofs.Delivers.{buried-after, holds-after}
-use Rattle.hub_loop.proofs.Marks.{kept_after, kept_same}
+use Rattle.hub_loop.proofs.Marks.{kept_after}
 use Rattle.hub_loop.proofs.ends.Holding.adopt_first.Goals as goal
-
-pub returns-in_default-clause-marks : goal.returns-in_default-clause-marks
-returns-in_default-clause-marks g c = kept_same c.args.self.now.ends
-
-pub returns-in_err-reserve-clause-marks : goal.returns-in_err-reserve-clause-marks
-returns-in_err-reserve-clause-marks g c = kept_same c.args.self.now.ends
 
 pub returns-in-Ok-clause-adopted : goal.returns-in-Ok-clause-adopted
 returns-in-Ok-clause-adopted g c =

@@ -1,10 +1,8 @@
 use Rattle.std.proofs.Common.{inl, subst}
 use Rattle.hub_loop.specs.Adopting.{IsFetched, KeepsFetched, SameStored}
-use Rattle.hub_loop.specs.Marking.{MarksKept}
 use Rattle.hub_loop.specs.States.{holding_of}
 use Rattle.std.specs.Prelude.{false}
 use Rattle.hub_loop.proofs.Delivers.{fetched, fetched-kept, fetched-same, stored-same}
-use Rattle.hub_loop.proofs.Marks.{kept_same}
 use Rattle.hub_loop.proofs.Endings.{on-err}
 use Rattle.hub_loop.proofs.event_loop.EventLoop.fetch.Goals as goal
 
@@ -12,11 +10,6 @@ pub returns-in_err-reserve-clause-err : goal.returns-in_err-reserve-clause-err
 returns-in_err-reserve-clause-err g c =
     let held = c.self.inside.holding in
     on-err c.from_residual.result (subst (λ l. SameStored l.holding (holding_of held)) c.self.view_is (stored-same (holding_of held)))
-
-pub returns-in_err-reserve-clause-marks : goal.returns-in_err-reserve-clause-marks
-returns-in_err-reserve-clause-marks g c =
-    let ends = c.self.inside.holding.ends in
-    subst (λ l. MarksKept l.holding.ends ends) c.self.view_is (kept_same ends)
 
 pub returns-in_err-reserve-clause-kept : goal.returns-in_err-reserve-clause-kept
 returns-in_err-reserve-clause-kept g c =
@@ -27,11 +20,6 @@ pub returns-in_default-clause-ok : goal.returns-in_default-clause-ok
 returns-in_default-clause-ok g c =
     let held = c.self.inside.holding in
     subst (λ l. IsFetched false l.holding (holding_of held) c.args.end) c.self.view_is (inl (stored-same (holding_of held)))
-
-pub returns-in_default-clause-marks : goal.returns-in_default-clause-marks
-returns-in_default-clause-marks g c =
-    let ends = c.self.inside.holding.ends in
-    subst (λ l. MarksKept l.holding.ends ends) c.self.view_is (kept_same ends)
 
 pub returns-in-Ok-clause-ok : goal.returns-in-Ok-clause-ok
 returns-in-Ok-clause-ok g c =
