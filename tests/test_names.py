@@ -1,4 +1,5 @@
-"""Counts the names that two library crates share, and the short files of the crates' sources.
+"""Counts the names that two library crates share, and the short files of the crates' sources, and
+draws functions for a reader.
 
 Whoever meets a name has to ask which crate's it is where two have it. So the types of `src/` that
 two share, and the words that `specs/` defines, are few and stand below, each with the reason. Who
@@ -6,7 +7,10 @@ adds one renames it, or says here why both have that name.
 """
 
 import collections
+import random
 import re
+import subprocess
+import unittest
 
 import support
 from support import ROOT
@@ -16,6 +20,9 @@ import cratelist
 TYPE = re.compile(r"^(?:pub(?:\(\w+\))? )?(?:struct|enum|trait|type) (\w+)", re.MULTILINE)
 # A definition may take arguments in front of its colon: `pub record IsNext (..) : Type 0 where`.
 WORD = re.compile(r"^(?:\w+ )*pub (?:(?:data|record) )?(?!mod |use )(\S+)", re.MULTILINE)
+
+# A function, and what it is written for; a method is known by that one's name.
+FUNCTION = re.compile(r"^(?:impl\b(?P<impl>[^{]*)|\s*(?:pub(?:\(\w+\))? )?fn (?P<name>\w+))")
 
 # Each name that two crates share, with the reason.
 TYPES = {
@@ -32,6 +39,7 @@ WORDS = {
 
 MOST_TYPES, MOST_WORDS = 3, 20
 FEWEST_LINES, MOST_SHORT_FILES = 50, 60
+DRAWN = 20
 
 
 def library_crates():
@@ -81,3 +89,32 @@ class Files(support.TestCase):
         short = [f"{name}: {count}" for name, count in counts.items() if count < FEWEST_LINES]
         self.says(len(counts), f"files, {len(short)} of them below {FEWEST_LINES} lines", 250)
         self.assertLessEqual(len(short), MOST_SHORT_FILES, "\n".join(["", *short]))
+
+
+def functions_of(path):
+    """The functions of a file, each with the name of the type that it is written for."""
+    owner = ""
+    for line in path.read_text("utf-8").splitlines():
+        found = FUNCTION.match(line)
+        if line.startswith("}"):
+            owner = ""
+        elif found and found["name"]:
+            yield f"{owner}{found['name']}"
+        elif found:
+            owner = re.sub(r"<[^<>]*>", "", re.sub(r"<[^<>]*>", "", found["impl"])).split()[-1] + "::"
+
+
+@support.needs("git")
+class Draw(support.TestCase):
+    @unittest.skipUnless((ROOT / ".git").exists(), "a checkout, of which git names the commit")
+    def test_functions(self):
+        """Draws functions by the commit's name: whoever sees name and path alone should know of
+        most what they do."""
+        words = ["git", "-C", ROOT, "rev-parse", "--short=8", "HEAD"]
+        commit = subprocess.run(words, stdout=subprocess.PIPE, text=True, check=True).stdout.strip()
+        found = [f"{name} in {path.relative_to(ROOT / 'crates')}"
+                 for crate in library_crates()
+                 for path in sorted((ROOT / "crates" / crate).glob("src/**/*.rt"))
+                 for name in functions_of(path)]
+        drawn = random.Random(commit).sample(sorted(found), DRAWN)
+        self.says(len(found), f"functions, for a reader at {commit}: {', '.join(drawn)}", 1_000)
