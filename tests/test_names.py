@@ -101,7 +101,8 @@ def functions_of(path):
         elif found and found["name"]:
             yield f"{owner}{found['name']}"
         elif found:
-            owner = re.sub(r"<[^<>]*>", "", re.sub(r"<[^<>]*>", "", found["impl"])).split()[-1] + "::"
+            plain = re.sub(r"<[^<>]*>", "", re.sub(r"<[^<>]*>", "", found["impl"]))
+            owner = plain.split()[-1] + "::"
 
 
 @support.needs("git")
