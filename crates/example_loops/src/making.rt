@@ -46,7 +46,7 @@ fn add_queue<R: Wait>(
 ) -> Option<EndId> {
     let mut queue = shared.directory.client(rt, ends, bell).ok()?;
     queue.loaded();
-    let number = queue.end();
+    let number = queue.id();
     event_loop.hold(Held::Client(queue)).ok()?;
     Some(number)
 }

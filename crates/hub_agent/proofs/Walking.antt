@@ -14,13 +14,12 @@ use Rattle.hub_logging.specs.Notes.{Notes}
 use Rattle.hub_envelope.specs.declared.ids.AgentId.{AgentId}
 use Rattle.hub_envelope.specs.declared.limits.TheConstants.{MAX_ENDS}
 use Rattle.hub_envelope.specs.declared.posted.Posted.{Posted}
-use Rattle.hub_loop.specs.declared.closed.ClosedPort.{ClosedPort}
+use Rattle.hub_ports.specs.declared.closing.ClosedPort.{ClosedPort}
 use Rattle.hub_loop.specs.Looking.{Holds}
 use Rattle.hub_loop.specs.declared.held.Held.TheVariants.{Member}
 use Rattle.hub_ports.specs.Closing.{AreDoomed}
 use Rattle.hub_ports.specs.Seats.{PortSeat, ends_of}
 use Rattle.hub_ports.specs.Sending.{IsSent}
-use Rattle.hub_ports.specs.declared.closing.Closing.{Closing}
 use Rattle.hub_ports.specs.declared.closing.Noticed.{Noticed}
 use Rattle.hub_ports.specs.declared.closing.Noticed.TheVariants as notice
 use Rattle.hub_ports.specs.declared.error.PortError.{PortError}
@@ -105,12 +104,12 @@ cast_from (Ok x) end body inside before now member same held at cast =
 cast_from (Err e) end body inside before now member same held at cast = tt
 
 -- one closing more
-pub doomed_more : (closings all : List Closing) (c : Closing) (before now after : Notes) → all ≡ closings ++ c ∷ [] → WritesEntries (doomed_entries closings) before now → WritesEntries (closing_entries c.end c.noticed) now after → WritesEntries (doomed_entries all) before after
+pub doomed_more : (closings all : List ClosedPort) (c : ClosedPort) (before now after : Notes) → all ≡ closings ++ c ∷ [] → WritesEntries (doomed_entries closings) before now → WritesEntries (closing_entries c.end c.noticed) now after → WritesEntries (doomed_entries all) before after
 doomed_more closings all c before now after is written more =
     writes_both (doomed_entries closings) (closing_entries c.end c.noticed) before now after written more
     ∙ ap (λ (es : List LogEntry). (before.log.0, before.log.1 ++ es))
     (ap (λ (es : List LogEntry). doomed_entries closings ++ es) (sym (append-nil (closing_entries c.end c.noticed)))
-    ∙ sym (flat_map-append (λ (d : Closing). closing_entries d.end d.noticed) closings (c ∷ []))
+    ∙ sym (flat_map-append (λ (d : ClosedPort). closing_entries d.end d.noticed) closings (c ∷ []))
     ∙ ap doomed_entries (sym is))
 
 -- an end that was closed, a port with what became of its notice
@@ -130,7 +129,7 @@ close_of (Ok x) end port old now new same written = (closed_entries end port, in
 close_of (Err e) end port old now new same written = tt
 
 -- the ports that a doomed post has closed are those that it was to transfer
-pub doomed_closings : (ports : List PortSeat) (closings : List Closing) → AreDoomed ports closings → AreClosings (ends_of ports) (doomed_entries closings)
+pub doomed_closings : (ports : List PortSeat) (closings : List ClosedPort) → AreDoomed ports closings → AreClosings (ends_of ports) (doomed_entries closings)
 doomed_closings [] closings none = ap doomed_entries none
 doomed_closings (p ∷ ps) closings (c, rest, is, doomed, more) =
     (closing_entries c.end c.noticed, doomed_entries rest, ap doomed_entries is, subst (λ (end : EndId). IsClosing end (closing_entries c.end c.noticed)) doomed.0.0 (is_closing c.end c.noticed), doomed_closings ps rest more)

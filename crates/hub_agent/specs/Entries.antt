@@ -8,10 +8,9 @@ use Rattle.hub_envelope.specs.declared.envelope.Envelope.{Envelope}
 use Rattle.hub_envelope.specs.declared.ids.EndId.{EndId}
 use Rattle.hub_envelope.specs.declared.posted.Posted.{Posted}
 use Rattle.hub_logging.specs.Notes.{Notes, notes_of}
-use Rattle.hub_loop.specs.declared.closed.ClosedPort.{ClosedPort}
+use Rattle.hub_ports.specs.declared.closing.ClosedPort.{ClosedPort}
 use Rattle.hub_loop.specs.declared.handler.Turn.{Turn}
 use Rattle.hub_loop.specs.declared.handler.Turn.TheVariants.{Delivered, Idle, Ending}
-use Rattle.hub_ports.specs.declared.closing.Closing.{Closing}
 use Rattle.hub_ports.specs.declared.closing.Noticed.{Noticed}
 use Rattle.hub_ports.specs.declared.error.PortError.{PortError}
 use Rattle.hub_ports.specs.declared.error.PortError.TheVariants.{Doomed}
@@ -51,7 +50,7 @@ abbrev pub closing_entries : EndId → Noticed → List LogEntry
 closing_entries end noticed = notice_entries noticed ++ Closed end ∷ []
 
 -- the closings of the ports that a doomed post has closed
-abbrev pub doomed_entries : List Closing → List LogEntry
+abbrev pub doomed_entries : List ClosedPort → List LogEntry
 doomed_entries closings = flat_map (λ c. closing_entries c.end c.noticed) closings
 
 -- an end was closed; its notice, where one was put, comes first

@@ -185,7 +185,7 @@ impl<'s, C: Checkpoint, K: Lends<Roster> + Drop> Agent<'s, C, K> {
     }
 
     /// Logs that it has adopted the ports that came with the last delivery.
-    fn log_delivered(&mut self) -> Result<(), OutOfMemory>
+    fn log_last_adopted(&mut self) -> Result<(), OutOfMemory>
         ensures written { OnOk result ((entries : List LogEntry)
             × AreAdoptions self.old.notes.adopted entries
             × WritesEntries entries self.old.notes self.new.notes) }
@@ -222,7 +222,7 @@ impl<'s, C: Checkpoint, K: Lends<Roster> + Drop> Agent<'s, C, K> {
         };
         match turn {
             Turn::Delivered => {
-                self.log_delivered()?;
+                self.log_last_adopted()?;
                 Ok(Turn::Delivered)
             }
             turn => Ok(turn),

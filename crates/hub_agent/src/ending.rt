@@ -12,8 +12,8 @@ use hub_broadcast::Roster;
 use hub_envelope::{EndId, OutOfMemory};
 use hub_locked::Lends;
 use hub_logging::Scribe;
-use hub_loop::{Checkpoint, ClosedPort, Ended, LoopError};
-use hub_ports::Noticed;
+use hub_loop::{Checkpoint, Ended, LoopError};
+use hub_ports::{ClosedPort, Noticed};
 use hub_queue::{Grave, Posted};
 use hub_trace::Log;
 use std::alloc::Global;
@@ -94,7 +94,7 @@ fn log_ended(
     let mut left = set_of(alloc, held)?;
     let mut notices = notices_of(alloc, &ended.noticed)?;
     for swept in &ended.swept {
-        let end = swept.end();
+        let end = swept.id();
         let notice = notices.remove(&end);
         let was_held = left.remove(&end);
         log_closing(scribe, end, notice, was_held)?;

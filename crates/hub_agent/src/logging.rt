@@ -18,8 +18,8 @@ ghost use Rattle.hub_trace.specs.declared.log_entry.LogEntry.TheVariants.{Adopte
 use hub_broadcast::CastOutcome;
 use hub_envelope::{Body, EndId, OutOfMemory};
 use hub_logging::Scribe;
-use hub_loop::{ClosedPort, Held};
-use hub_ports::{Closing, Closings, Noticed, SendRefusal};
+use hub_loop::Held;
+use hub_ports::{ClosedPort, Closings, Noticed, SendRefusal};
 use hub_queue::Posted;
 use hub_trace::Content;
 
@@ -104,7 +104,7 @@ pub(crate) fn log_closed_end(
 }
 
 /// Logs what became of the ports that a doomed post has closed.
-fn log_doomed(scribe: &mut Scribe, closings: &[Closing]) -> Result<(), OutOfMemory>
+fn log_doomed(scribe: &mut Scribe, closings: &[ClosedPort]) -> Result<(), OutOfMemory>
     ensures { OnOk result (WritesEntries (doomed_entries closings.now) scribe.old scribe.new) }
 {
     for closing in closings {

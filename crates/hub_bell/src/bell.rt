@@ -44,7 +44,7 @@ impl Bell {
     ghost use Rattle.hub_bell.specs.Seats.{new_at};
 
     /// The first seat at a board, of which this is a bell.
-    pub(crate) fn at(board: Arc<Board>) -> Bell
+    pub(crate) fn new(board: Arc<Board>) -> Bell
         ensures { result ≡ new_at (arc_value board).words.shared.table_id }
     {
         let seat = board.words.shared.load_new_seat::<Fresh>(NAMES).1;
@@ -123,7 +123,7 @@ impl Clone for Bell {
 
     /// One more bell of the same loop, which has done nothing yet.
     fn clone(&self) -> Result<Bell, OutOfMemory> {
-        Ok(Bell::at(Arc::try_clone(&self.board)?))
+        Ok(Bell::new(Arc::try_clone(&self.board)?))
     }
 }
 
@@ -225,7 +225,7 @@ impl Listener {
         let waker = sleeper.unparker().clone()?;
         let (words, seat) = BoardWords::of_words(alloc, &[0; WORDS], &())?;
         let board = Arc::new(alloc, Board { words, waker })?;
-        let bell = Bell::at(Arc::try_clone(&board)?);
+        let bell = Bell::new(Arc::try_clone(&board)?);
         let listener = Listener {
             sleeper,
             board,
@@ -236,11 +236,11 @@ impl Listener {
     }
 
     /// One more bell of this listener, which has done nothing yet.
-    pub fn bell(&self) -> Result<Bell, OutOfMemory>
+    pub fn new_bell(&self) -> Result<Bell, OutOfMemory>
         ensures { IfOk result (λ bell. bell ≡ new_at self.now.board) }
     {
         let board = Arc::try_clone(&self.board)?;
-        Ok(Bell::at(board))
+        Ok(Bell::new(board))
     }
 
     /// Takes out the names of the groups in which bits were set: bit `n` is set where one was set

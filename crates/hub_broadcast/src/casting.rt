@@ -71,7 +71,7 @@ pub(crate) fn cast_all<R: Wait>(
     for subscription in subscriptions.iter_mut() {
         if subscription.is_destination(source) {
             let draft = drafts.pop().unwrap();
-            let end = subscription.end();
+            let end = subscription.id();
             let outcome = subscription.deliver(rt, yard, draft);
             outcomes.push_reserved((end, outcome));
         }

@@ -52,10 +52,10 @@ impl Model for Member {
 
 impl Member {
     /// The number of its end, under which it leaves the roster.
-    pub fn end(&self) -> EndId
+    pub fn id(&self) -> EndId
         ensures { result.0 ≡ self.now.taker.end }
     {
-        self.taker.end()
+        self.taker.id()
     }
 
     /// Takes the first message that was cast to it and not taken yet: `Taker::take` of its end.

@@ -106,7 +106,7 @@ impl Roster {
             (Any (λ s. end.0 ≤ s.poster.name.end.0) self.now) }
     {
         match self.subscriptions.last() {
-            Some(newest) => newest.end().0 < end.0,
+            Some(newest) => newest.id().0 < end.0,
             None => true,
         }
     }
@@ -117,7 +117,7 @@ impl Roster {
         ensures { self.new ≡ filter (λ s. not (is_of_end end s)) self.old }
     {
         self.subscriptions
-            .retain(|subscription| subscription.end() != end);
+            .retain(|subscription| subscription.id() != end);
     }
 
     fn has(&self, end: EndId) -> bool
@@ -126,7 +126,7 @@ impl Roster {
     {
         self.subscriptions
             .iter()
-            .any(|subscription| subscription.end() == end)
+            .any(|subscription| subscription.id() == end)
     }
 
     /// Posts the body at each member of the source's origin and name but the source, in the order
@@ -156,7 +156,7 @@ impl Roster {
         ensures no_list { OnOk result (list.now ≡ []) }
         ensures err { OnErr result (self.new ≡ self.old) }
     {
-        if !self.has(source.end()) {
+        if !self.has(source.id()) {
             return Err(CastError::InvalidState);
         }
         if !list.is_empty() {

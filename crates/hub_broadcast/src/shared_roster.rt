@@ -43,7 +43,7 @@ impl SharedRoster {
     }
 
     /// The roster behind its lock, for code that is generic over who lends it.
-    pub fn lock(&self) -> &Locked<Roster> {
+    pub fn as_locked(&self) -> &Locked<Roster> {
         &self.roster
     }
 

@@ -42,7 +42,7 @@ impl Model for Subscription {
 
 impl Subscription {
     /// The end of the member.
-    pub(crate) fn end(&self) -> EndId
+    pub(crate) fn id(&self) -> EndId
         ensures { result ≡ self.now.poster.name.end }
     {
         self.poster.name().end
@@ -52,7 +52,7 @@ impl Subscription {
     pub(crate) fn is_destination(&self, source: &Member) -> bool
         ensures { result ≡ is_destination source.now self.now }
     {
-        self.origin == source.origin && self.name == source.name && self.end() != source.end()
+        self.origin == source.origin && self.name == source.name && self.id() != source.id()
     }
 
     /// Posts the draft at the member.

@@ -33,7 +33,7 @@ impl Drop for HubHandle {
 }
 
 impl HubHandle {
-    fn closed(alloc: Global) -> HubHandle
+    fn new_closed(alloc: Global) -> HubHandle
         ensures { result.slot.held ≡ None }
     {
         HubHandle {
@@ -88,7 +88,7 @@ pub extern "C" fn varukoni_close(alloc: Global, hub: &mut HubHandle)
     ensures closed { hub.new.slot.held ≡ None }
     ensures told { hub.new.is_open ≡ false }
 {
-    *hub = HubHandle::closed(alloc);
+    *hub = HubHandle::new_closed(alloc);
 }
 
 /// Runs a step line, which comes without its LF, and puts its outcome line, with its LF, into the
@@ -122,7 +122,7 @@ pub extern "C" fn varukoni_line(
     if !hub.is_open {
         return WRONG_STATE;
     }
-    let mut session = mem::replace(hub, HubHandle::closed(alloc)).into_session();
+    let mut session = mem::replace(hub, HubHandle::new_closed(alloc)).into_session();
     let status = give_line(alloc, &mut session, line, room, length);
     *hub = HubHandle::open(session);
     status
@@ -149,7 +149,7 @@ pub extern "C" fn varukoni_said(
     if !hub.is_open {
         return WRONG_STATE;
     }
-    let mut session = mem::replace(hub, HubHandle::closed(alloc)).into_session();
+    let mut session = mem::replace(hub, HubHandle::new_closed(alloc)).into_session();
     let status = say_again(&mut session, room, length);
     *hub = HubHandle::open(session);
     status
@@ -157,13 +157,13 @@ pub extern "C" fn varukoni_said(
 
 /// A session in its box, which may be sent to another thread. Nothing calls it: that it is accepted
 /// shows that a session is `Send`.
-fn sent_session(session: Box<Session>) -> Box<Session>
+fn assert_session_send(session: Box<Session>) -> Box<Session>
     ensures { result ≡ session }
 {
-    sent(session)
+    assert_send(session)
 }
 
-fn sent<T: Send>(value: T) -> T
+fn assert_send<T: Send>(value: T) -> T
     ensures { result ≡ value }
 {
     value

@@ -7,7 +7,7 @@ ghost use Rattle.hub_clients.specs.NewQueues.{IsNewClientQueue, listed_of, IsNew
 ghost use Rattle.hub_clients.specs.Handing.{taker_of};
 
 use crate::error::{DirectoryError, HandError, QueueError};
-use crate::handed::{Handed, HandedQueue, close_all, fetch_from, keep_on};
+use crate::handed::{Handed, HandedQueue, close_all, fetch_from, keep_in};
 use crate::listing::{Listed, QueueList};
 use crate::queue::{ClientQueue, Queue, WorkerQueue};
 use hub_depot::Depot;
@@ -41,7 +41,7 @@ pub fn open_in<L: Lends<QueueList>, R: Wait>(
     };
     let (taker, posters) = Mailbox::open(alloc, end, MAX_LINES as u8, bell)?;
     let listed = Listed::new(alloc, end, posters)?;
-    lender.lend(rt, |listing| listing.list(listed))?;
+    lender.lend(rt, |listing| listing.insert(listed))?;
     *ends = drawn;
     Ok(taker)
 }
@@ -57,7 +57,7 @@ pub fn open_in<L: Lends<QueueList>, R: Wait>(
 /// let directory = Directory::new(alloc);
 /// let mut queue = directory.client(rt, &mut ends, bell)?;
 /// queue.loaded();
-/// let mut line = directory.line_to(rt, queue.end())?;
+/// let mut line = directory.line_to(rt, queue.id())?;
 /// ```
 #[derive(Drop)]
 pub struct Directory {
@@ -154,8 +154,8 @@ impl Directory {
     ) -> Result<(), (HandError, HandedQueue)>
         ensures { IfErr result (λ refused. refused.1 ≡ queue) }
     {
-        let mut lender = self.handed.lock();
-        keep_on(rt, &mut lender, queue, to)
+        let mut lender = self.handed.as_locked();
+        keep_in(rt, &mut lender, queue, to)
     }
 
     /// Takes out the queue of that number that was handed to that agent. `None` where none waits.
@@ -163,7 +163,7 @@ impl Directory {
     pub fn fetch<R: Wait>(&self, rt: &R, end: EndId, to: AgentId) -> Option<Handed>
         ensures { IfSome result (λ h. ((taker_of h.queue).end ≡ end.0) × (h.to ≡ to)) }
     {
-        let mut lender = self.handed.lock();
+        let mut lender = self.handed.as_locked();
         fetch_from(rt, &mut lender, end, to)
     }
 

@@ -28,12 +28,12 @@ impl HandedQueue {
     ghost use Rattle.hub_clients.specs.Handing.{taker_of};
 
     /// The number of the queue.
-    pub fn end(&self) -> EndId
+    pub fn id(&self) -> EndId
         ensures { result.0 ≡ (taker_of self.now).end }
     {
         match self {
-            HandedQueue::Client(queue) => queue.end(),
-            HandedQueue::Worker(queue) => queue.end(),
+            HandedQueue::Client(queue) => queue.id(),
+            HandedQueue::Worker(queue) => queue.id(),
         }
     }
 
@@ -84,12 +84,12 @@ impl Named for Handed {
     fn name(&self) -> Key
         ensures { result ≡ handed_name (taker_of self.now.queue).end self.now.to }
     {
-        Handed::name_for(self.queue.end(), self.to)
+        Handed::name_for(self.queue.id(), self.to)
     }
 }
 
 /// Keeps a queue until that agent fetches it. After an error it comes back.
-pub fn keep_on<L: Lends<Kept<Handed>>, R: Wait>(
+pub fn keep_in<L: Lends<Kept<Handed>>, R: Wait>(
     rt: &R,
     lender: &mut L,
     queue: HandedQueue,

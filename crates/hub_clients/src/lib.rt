@@ -14,6 +14,6 @@ mod queue;
 
 pub use directory::{Directory, open_in};
 pub use error::{DirectoryError, HandError, QueueError};
-pub use handed::{Handed, HandedQueue, close_all, fetch_from, keep_on};
+pub use handed::{Handed, HandedQueue, close_all, fetch_from, keep_in};
 pub use listing::{Listed, QueueList};
 pub use queue::{Client, ClientQueue, Queue, QueueKind, Worker, WorkerQueue};

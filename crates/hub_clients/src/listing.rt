@@ -47,7 +47,7 @@ impl Listed {
     }
 
     /// The number of the queue.
-    pub fn end(&self) -> EndId
+    pub fn id(&self) -> EndId
         ensures { result ≡ self.now.end }
     {
         self.end
@@ -105,21 +105,17 @@ fn place_of(queues: &[Listed], end: EndId) -> Option<usize>
     requires { IsInOrder queues.now }
     ensures { IsPlaceOf queues.now end result }
 {
-    let place = queues.partition_point(|queue| queue.end().0 < end.0);
+    let place = queues.partition_point(|queue| queue.id().0 < end.0);
     let queue = queues.get(place)?;
-    if queue.end() == end {
-        Some(place)
-    } else {
-        None
-    }
+    if queue.id() == end { Some(place) } else { None }
 }
 
 /// Where a queue of that number is to be listed.
-fn place_behind(queues: &[Listed], end: EndId) -> usize
+fn insertion_index(queues: &[Listed], end: EndId) -> usize
     requires { IsInOrder queues.now }
     ensures { IsPlaceBehind queues.now end result }
 {
-    queues.partition_point(|queue| queue.end().0 <= end.0)
+    queues.partition_point(|queue| queue.id().0 <= end.0)
 }
 
 impl QueueList {
@@ -135,11 +131,11 @@ impl QueueList {
     /// Lists a queue, behind those of its own or a lower number. Where its number is the greatest,
     /// as of queues that are listed in the order in which they are made, no other is moved.
     /// `OutOfMemory` where there was no memory for one more; then what is listed is as it was.
-    pub fn list(&mut self, queue: Listed) -> Result<(), OutOfMemory>
+    pub fn insert(&mut self, queue: Listed) -> Result<(), OutOfMemory>
         ensures ok { OnOk result (IsListed self.old self.new queue) }
         ensures err { OnErr result (self.new ≡ self.old) }
     {
-        let place = place_behind(&self.queues, queue.end());
+        let place = insertion_index(&self.queues, queue.id());
         self.queues.insert(place, queue)?;
         Ok(())
     }

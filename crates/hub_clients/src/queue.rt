@@ -26,11 +26,11 @@ pub trait QueueKind {
     ghost as_handed: { TakerSeat → HandedSeat };
 
     /// The queue, as it is handed on.
-    fn handed(queue: Queue<Self>) -> HandedQueue
+    fn into_handed(queue: Queue<Self>) -> HandedQueue
         ensures { result ≡ as_handed queue };
 
     /// The queue that was not handed on.
-    fn given_back(queue: HandedQueue) -> Queue<Self>
+    fn from_handed(queue: HandedQueue) -> Queue<Self>
         requires { (own : TakerSeat) × (queue ≡ as_handed own) }
         ensures { (own : TakerSeat) → queue ≡ as_handed own → result ≡ own };
 }
@@ -71,10 +71,10 @@ impl<K> Queue<K> {
     }
 
     /// The number of the queue.
-    pub fn end(&self) -> EndId
+    pub fn id(&self) -> EndId
         ensures { result.0 ≡ self.now.end }
     {
-        self.taker.end()
+        self.taker.id()
     }
 
     /// Takes the first envelope, as `Taker::take` does. The last parameter counts the pops.
@@ -120,9 +120,9 @@ impl<K: QueueKind> Queue<K> {
     ) -> Result<(), (HandError, Queue<K>)>
         ensures { IfErr result (λ refused. refused.1 ≡ self) }
     {
-        match directory.keep(rt, K::handed(self), to) {
+        match directory.keep(rt, K::into_handed(self), to) {
             Ok(()) => Ok(()),
-            Err((error, queue)) => Err((error, K::given_back(queue))),
+            Err((error, queue)) => Err((error, K::from_handed(queue))),
         }
     }
 }
@@ -144,13 +144,13 @@ impl QueueKind for Client {
 
     ghost as_handed = { ClientHanded };
 
-    fn handed(queue: ClientQueue) -> HandedQueue
+    fn into_handed(queue: ClientQueue) -> HandedQueue
         ensures { result ≡ ClientHanded queue }
     {
         HandedQueue::Client(queue)
     }
 
-    fn given_back(queue: HandedQueue) -> ClientQueue
+    fn from_handed(queue: HandedQueue) -> ClientQueue
         requires { (own : TakerSeat) × (queue ≡ ClientHanded own) }
         ensures { (own : TakerSeat) → queue ≡ ClientHanded own → result ≡ own }
     {
@@ -212,13 +212,13 @@ impl QueueKind for Worker {
 
     ghost as_handed = { WorkerHanded };
 
-    fn handed(queue: WorkerQueue) -> HandedQueue
+    fn into_handed(queue: WorkerQueue) -> HandedQueue
         ensures { result ≡ WorkerHanded queue }
     {
         HandedQueue::Worker(queue)
     }
 
-    fn given_back(queue: HandedQueue) -> WorkerQueue
+    fn from_handed(queue: HandedQueue) -> WorkerQueue
         requires { (own : TakerSeat) × (queue ≡ WorkerHanded own) }
         ensures { (own : TakerSeat) → queue ≡ WorkerHanded own → result ≡ own }
     {

@@ -64,12 +64,12 @@ is_here (Some Swept) = true
 is_here _ = false
 
 -- whether the place of the port that posts on the line lets its poster put a notice
-abbrev pub hears_notice : Facts → Sender → Bool
-hears_notice f s = s.line.0 == 0 && is_here (option_and_then (λ q. (f.end q).place) (peer_of (f.end s.end.0).kind))
+abbrev pub may_put_notice : Facts → Sender → Bool
+may_put_notice f s = s.line.0 == 0 && is_here (option_and_then (λ q. (f.end q).place) (peer_of (f.end s.end.0).kind))
 
 -- whether a poster may enter: to post, or to put a notice alone
 abbrev pub may_enter : Facts → Sender → Bool
-may_enter f s = is_some (poster f s) || hears_notice f s
+may_enter f s = is_some (poster f s) || may_put_notice f s
 
 -- An Enter tests that its poster may enter and is out, and that no notice was put on the line; then it looks for a
 -- retired queue and for a closed end.
@@ -164,7 +164,7 @@ push_answer posting n f s ports body refused =
 -- then memory. The envelope is of agent 0, whichever agent the port is with.
 abbrev pub notice_answer : Bool → ℕ → Facts → Sender → Bool → Outcome
 notice_answer posting n f s refused =
-    if not (posting && hears_notice f s) then outcome.NotNow
+    if not (posting && may_put_notice f s) then outcome.NotNow
     else (if refused then outcome.NoMemory
     else outcome.Accepted (name_of n f s (record { 0 = 0 })))
 

@@ -67,7 +67,7 @@ impl Agent {
     }
 
     /// The agent after a poster of it came to this phase: one more is away, or one less.
-    pub(crate) fn counted(mut self, phase: Phase) -> Agent
+    pub(crate) fn with_phase(mut self, phase: Phase) -> Agent
         ensures { result ≡ counted phase self }
     {
         match phase {

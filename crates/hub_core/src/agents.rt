@@ -39,7 +39,7 @@ impl Core {
             return Ok(Outcome::TooManyAgents);
         }
         self.agents.reserve(1)?;
-        self.roster.members.enrol(origin)?;
+        self.roster.members.add_agent(origin)?;
         self.agents.push(Agent::FIRST).unwrap();
         Ok(Outcome::Agent(AgentId(number as u8)))
     }
@@ -269,7 +269,7 @@ impl Core {
     }
 
     /// A poster of the agent came to this phase: it is away now, or it left.
-    pub(crate) fn count_phase(&mut self, owner: Option<AgentId>, phase: Phase)
+    pub(crate) fn record_phase(&mut self, owner: Option<AgentId>, phase: Phase)
         ensures { self.new ≡ record self.old {
           agents = change_owner (counted phase) owner self.old.agents;
         } }
@@ -278,7 +278,7 @@ impl Core {
             return;
         };
         if let Some(found) = self.agent_at(agent).copied() {
-            self.set_agent(agent, Some(found.counted(phase)));
+            self.set_agent(agent, Some(found.with_phase(phase)));
         }
     }
 }

@@ -14,7 +14,7 @@ ghost use Rattle.hub_core.specs.Shows.{SameContent};
 use crate::end::End;
 use crate::kind::Kind;
 use crate::machine::Core;
-use crate::roster::all_left;
+use crate::roster::to_deque;
 use crate::step::Outcome;
 use hub_envelope::{AgentId, Body, EndId, Items, MAX_ENDS, OutOfMemory, Text};
 
@@ -77,7 +77,7 @@ impl Core {
             return Ok(refusal);
         }
         let ends = self.roster.members.others(self.alloc, end.0)?;
-        let left = all_left(self.alloc, &ends)?;
+        let left = to_deque(self.alloc, &ends)?;
         self.roster.begin(end, body, left);
         Ok(Outcome::Destinations(Items::of(ends)))
     }
@@ -122,7 +122,7 @@ impl Core {
     }
 
     /// A member leaves the roster.
-    pub(crate) fn part(&mut self, end: EndId) -> Outcome
+    pub(crate) fn leave_roster(&mut self, end: EndId) -> Outcome
         ensures { let seated = is_seated self.old.roster.members end.0 in
             (result ≡ part_answer seated (seen self.old))
             × PartLeaves end.0 self.old.roster result self.new.roster
@@ -131,7 +131,7 @@ impl Core {
         if self.roster.cast.is_some() || !self.roster.members.has(end.0) {
             return Outcome::NotNow;
         }
-        self.roster.members.part(end.0);
+        self.roster.members.leave(end.0);
         Outcome::Done
     }
 }

@@ -91,14 +91,14 @@ impl End {
             newest: 0,
             taker: 0,
             looked: 0,
-            lines: Lines::first(alloc, kind.lines())?,
+            lines: Lines::new(alloc, kind.lines())?,
             queues: Queues::one(alloc)?,
         })
     }
 
     /// The queue that a look looks at: the first that isn't clear among the retired ones from the
     /// taker's on, and the newest where the end is closed.
-    pub(crate) fn looked(&self) -> Option<u32>
+    pub(crate) fn next_epoch(&self) -> Option<u32>
         ensures { result ≡ kept_looked self.now }
     {
         let newest = u64::from(self.newest);

@@ -70,7 +70,7 @@ impl Core {
         let served = &mut self.ends[end.0 as usize];
         match served.queues.take_first() {
             Some(envelope) => {
-                self.place_each(envelope.ports.as_slice(), Place::Arrived(agent));
+                self.set_places(envelope.ports.as_slice(), Place::Arrived(agent));
                 Outcome::Got(envelope)
             }
             None if served.taker >= served.newest => Outcome::Empty,
@@ -96,7 +96,7 @@ impl Core {
         if !found.is_closed && found.taker >= found.newest {
             return Outcome::NotNow;
         }
-        let Some(epoch) = found.looked() else {
+        let Some(epoch) = found.next_epoch() else {
             return Outcome::Clear(None);
         };
         if found.lines.is_anyone_at(epoch) {
@@ -123,19 +123,19 @@ impl Core {
             return Ok(Outcome::Busy);
         }
         let swept = &mut self.ends[end.0 as usize];
-        let envelopes = swept.queues.empty(self.alloc)?;
-        self.place_swept(envelopes.as_slice());
+        let envelopes = swept.queues.take_all(self.alloc)?;
+        self.mark_swept(envelopes.as_slice());
         Ok(Outcome::Discarded(envelopes))
     }
 
     /// Gives each port that the envelopes name its place.
-    fn place_swept(&mut self, envelopes: &[Envelope])
+    fn mark_swept(&mut self, envelopes: &[Envelope])
         ensures { self.new ≡ record self.old {
           ends = moved_ends (ports_of envelopes.now) Place.Swept self.old.ends;
         } }
     {
         for envelope in envelopes {
-            self.place_each(envelope.ports.as_slice(), Place::Swept);
+            self.set_places(envelope.ports.as_slice(), Place::Swept);
         }
     }
 
@@ -195,7 +195,7 @@ impl Core {
             ≡ option_map (adopting released kind) (slice_get self.now.agents agent.0)) }
     {
         match self.with_one_more(kind, agent)? {
-            Some(found) if !self.is_released(kind) => Ok(Some(found.counted(Phase::Inside))),
+            Some(found) if !self.is_released(kind) => Ok(Some(found.with_phase(Phase::Inside))),
             found => Ok(found),
         }
     }
@@ -262,7 +262,7 @@ impl Core {
         let kind = found.kind;
         let place = found.place;
         self.went_from(kind, place);
-        self.place(end, Place::Arrived(agent));
+        self.set_place(end, Place::Arrived(agent));
         Outcome::Handed
     }
 

@@ -19,7 +19,7 @@
 
 ghost use Rattle.std.specs.Prelude.{◌≡◌, [], true, option_map, slice_get, Some};
 ghost use Rattle.std.specs.Prelude.{IfOk, OnErr, MatchResult};
-ghost use Rattle.hub_core.specs.Posting.{holder, poster, poster_of, is_here, hears_notice};
+ghost use Rattle.hub_core.specs.Posting.{holder, poster, poster_of, is_here, may_put_notice};
 ghost use Rattle.hub_core.specs.Posting.{may_enter, may_post, listing, owner_by, running, speaker};
 ghost use Rattle.hub_core.specs.Facts.{facts};
 ghost use Rattle.hub_core.specs.History.{History};
@@ -144,7 +144,7 @@ impl Core {
             Action::Order(agent) => Ok(self.order(agent)),
             Action::See(agent) => self.see(agent),
             Action::Cast(end, ports, body) => self.cast(end, ports, body),
-            Action::Part(end) => Ok(self.part(end)),
+            Action::Part(end) => Ok(self.leave_roster(end)),
         }
     }
 
@@ -257,8 +257,8 @@ impl Core {
     }
 
     /// Whether the place of the port that posts on a line lets its poster put a notice.
-    pub(crate) fn hears_notice(&self, sender: Sender) -> bool
-        ensures { result ≡ hears_notice (seen self.now) sender }
+    pub(crate) fn may_put_notice(&self, sender: Sender) -> bool
+        ensures { result ≡ may_put_notice (seen self.now) sender }
     {
         let Some(end) = self.end_at(sender.end) else {
             return false;
@@ -273,7 +273,7 @@ impl Core {
     pub(crate) fn may_enter(&self, sender: Sender) -> bool
         ensures { result ≡ may_enter (seen self.now) sender }
     {
-        self.poster_of(sender).is_some() || self.hears_notice(sender)
+        self.poster_of(sender).is_some() || self.may_put_notice(sender)
     }
 
     /// Whether a message may be posted on a line now: an agent that may post holds it, its poster

@@ -52,7 +52,7 @@ impl Core {
         let owner = self.owner_of(sender);
         // The line is written right after it was read, so that it is looked for once.
         self.set_line(sender, Line { phase, ..found });
-        self.count_phase(owner, phase);
+        self.record_phase(owner, phase);
         outcome
     }
 
@@ -67,8 +67,8 @@ impl Core {
         let phase = Phase::Out;
         let owner = self.owner_of(sender);
         self.set_line(sender, Line { phase, ..found });
-        self.count_phase(owner, phase);
-        self.roster.leave(sender.end);
+        self.record_phase(owner, phase);
+        self.roster.advance_cast(sender.end);
         Outcome::Left
     }
 
@@ -218,7 +218,7 @@ impl Core {
         let Some((_, line)) = self.posting_line(sender) else {
             return Ok(Outcome::NotNow);
         };
-        if !self.hears_notice(sender) {
+        if !self.may_put_notice(sender) {
             return Ok(Outcome::NotNow);
         }
         if memory_refused {
@@ -261,7 +261,7 @@ impl Core {
         let count = listed.len();
         travelling[..count].copy_from_slice(listed);
         self.put(line, envelope)?;
-        self.place_each(&travelling[..count], Place::InFlight);
+        self.set_places(&travelling[..count], Place::InFlight);
         Ok(())
     }
 
@@ -300,7 +300,7 @@ impl Core {
         requires { ((seen self.now).end sender.end.0).kind ≡ Some kind }
         ensures { result ≡ listing_of (seen self.now) sender ports.now agent }
     {
-        if !self.may_all_leave(sender, kind.source(), agent, ports) {
+        if !self.may_all_travel(sender, kind.source(), agent, ports) {
             return Listing::Bad;
         }
         if ports.contains(&sender.end) {
@@ -311,7 +311,7 @@ impl Core {
     }
 
     /// Whether these are distinct ports that may leave an agent.
-    fn may_all_leave(
+    fn may_all_travel(
         &self,
         sender: Sender,
         source: Option<EndId>,
@@ -324,7 +324,7 @@ impl Core {
             && list_all (may_leave_agent (seen self.now) agent sender) ports.now) }
     {
         for (i, port) in ports.iter().enumerate() {
-            if ports[i + 1..].contains(port) || !self.may_leave(sender, source, agent, *port) {
+            if ports[i + 1..].contains(port) || !self.may_travel(sender, source, agent, *port) {
                 return false;
             }
         }
@@ -333,7 +333,7 @@ impl Core {
 
     /// Whether a port may leave an agent that posts on a line with another one, the source, or
     /// with none.
-    fn may_leave(&self, sender: Sender, source: Option<EndId>, agent: AgentId, port: EndId) -> bool
+    fn may_travel(&self, sender: Sender, source: Option<EndId>, agent: AgentId, port: EndId) -> bool
         requires { option_map (λ q. q.0) source
             ≡ peer_of ((seen self.now).end sender.end.0).kind }
         ensures { result ≡ may_leave_agent (seen self.now) agent sender port }
@@ -360,18 +360,18 @@ impl Core {
     }
 
     /// Gives each listed port a new place.
-    pub(crate) fn place_each(&mut self, ports: &[EndId], place: Place)
+    pub(crate) fn set_places(&mut self, ports: &[EndId], place: Place)
         ensures { self.new ≡ record self.old {
           ends = moved_ends ports.now place self.old.ends;
         } }
     {
         for port in ports {
-            self.place(*port, place);
+            self.set_place(*port, place);
         }
     }
 
     /// Gives an end a new place.
-    pub(crate) fn place(&mut self, port: EndId, place: Place)
+    pub(crate) fn set_place(&mut self, port: EndId, place: Place)
         ensures { self.new ≡ record self.old { ends = end_moved place self.old.ends port } }
     {
         if let Some(end) = self.ends.get_mut(port.0 as usize) {

@@ -123,7 +123,7 @@ impl Queues {
     }
 
     /// How many envelopes wait in all queues.
-    fn waiting(&self) -> Result<usize, OutOfMemory>
+    fn envelope_count(&self) -> Result<usize, OutOfMemory>
         ensures { IfOk result (λ n. n ≡ length (joined self.now)) }
     {
         let (front, back) = self.queues.as_slices();
@@ -132,11 +132,11 @@ impl Queues {
     }
 
     /// Takes all envelopes, queue after queue, and leaves no queue.
-    pub(crate) fn empty(&mut self, alloc: Global) -> Result<Items<Envelope>, OutOfMemory>
+    pub(crate) fn take_all(&mut self, alloc: Global) -> Result<Items<Envelope>, OutOfMemory>
         ensures { MatchResult result (λ envelopes. (envelopes ≡ joined self.old) × (self.new ≡ []))
             (λ _. self.new ≡ self.old) }
     {
-        let waiting = self.waiting()?;
+        let waiting = self.envelope_count()?;
         // There is room for all before the first one moves.
         let mut envelopes = Vec::with_capacity(alloc, waiting)?;
         while let Some(mut queue) = self.queues.pop_front() {

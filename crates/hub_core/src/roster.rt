@@ -85,7 +85,7 @@ impl Members {
     }
 
     /// One more agent, of this origin or of none.
-    pub(crate) fn enrol(&mut self, origin: Option<Text>) -> Result<(), OutOfMemory>
+    pub(crate) fn add_agent(&mut self, origin: Option<Text>) -> Result<(), OutOfMemory>
         ensures { MatchResult result (λ _. self.new ≡ record self.old {
           origins = self.old.origins ++ origin ∷ [];
         }) (λ _. self.new ≡ self.old) }
@@ -139,7 +139,7 @@ impl Members {
     }
 
     /// The member parts, where it hasn't.
-    pub(crate) fn part(&mut self, number: u32)
+    pub(crate) fn leave(&mut self, number: u32)
         ensures { Parts number self.old self.new }
     {
         let Some(group) = self.groups.get(&number) else {
@@ -263,7 +263,7 @@ impl Roster {
     }
 
     /// A poster left the end: where that is the first destination left, it is done with.
-    pub(crate) fn leave(&mut self, end: EndId)
+    pub(crate) fn advance_cast(&mut self, end: EndId)
         ensures { self.new ≡ record self.old { cast = cast_after end.0 self.old.cast } }
     {
         let Some(cast) = &mut self.cast else {
@@ -280,7 +280,7 @@ impl Roster {
 }
 
 /// These ends, as what is left of a cast.
-pub(crate) fn all_left(alloc: Global, ends: &[EndId]) -> Result<VecDeque<EndId>, OutOfMemory>
+pub(crate) fn to_deque(alloc: Global, ends: &[EndId]) -> Result<VecDeque<EndId>, OutOfMemory>
     ensures { IfOk result (λ left. left.items ≡ ends.now) }
 {
     let mut left = VecDeque::with_capacity(alloc, ends.len())?;

@@ -23,12 +23,12 @@ pub fn run(alloc: Global, steps: Vec<Step>) -> Result<Vec<Outcome>, OutOfMemory>
     ensures in_order { IfOk result (λ outcomes. InOrder (zip steps.items outcomes.items)) }
 {
     let mut core = Core::new(alloc);
-    core.take_all(alloc, steps)
+    core.step_all(alloc, steps)
 }
 
 impl Core {
     /// Takes the steps in order, and stops at the first that is answered `Err`.
-    fn take_all(&mut self, alloc: Global, steps: Vec<Step>) -> Result<Vec<Outcome>, OutOfMemory>
+    fn step_all(&mut self, alloc: Global, steps: Vec<Step>) -> Result<Vec<Outcome>, OutOfMemory>
         requires { Shows self.old [] }
         ensures each { IfOk result (λ outcomes. length outcomes.items ≡ length steps.items) }
         ensures shows { IfOk result (λ outcomes.
@@ -36,7 +36,7 @@ impl Core {
     {
         let mut outcomes = Vec::with_capacity(alloc, steps.len())?;
         for step in steps {
-            let outcome = self.take_any(step)?;
+            let outcome = self.step_any(step)?;
             outcomes.push(outcome)?;
         }
         Ok(outcomes)
@@ -45,7 +45,7 @@ impl Core {
     /// Takes a step as `step` does, which is inlined, and clears room at its start for the answers
     /// of all steps that it may take. So posts and takes, which most steps are, have one each.
     #[inline(always)]
-    fn take_any(&mut self, step: Step) -> Result<Outcome, OutOfMemory>
+    fn step_any(&mut self, step: Step) -> Result<Outcome, OutOfMemory>
         ensures { IfOk result (λ o. FitsAndShows self.old self.new step o) }
     {
         let Step {
@@ -69,7 +69,7 @@ impl Core {
                 action: Action::Take(end),
                 memory_refused,
             }),
-            action => self.take_rarer(Step {
+            action => self.step_rarer(Step {
                 action,
                 memory_refused,
             }),
@@ -78,7 +78,7 @@ impl Core {
 
     /// Takes a step that is neither part of a post nor a take.
     #[inline(never)]
-    fn take_rarer(&mut self, step: Step) -> Result<Outcome, OutOfMemory>
+    fn step_rarer(&mut self, step: Step) -> Result<Outcome, OutOfMemory>
         ensures { IfOk result (λ o. FitsAndShows self.old self.new step o) }
     {
         self.step(step)

@@ -31,7 +31,7 @@ impl<V: Named> Depot<V> {
     }
 
     /// The map that `into_kept` gave, behind a lock again. It takes no memory.
-    pub fn holding(kept: Kept<V>) -> Depot<V> {
+    pub fn from_kept(kept: Kept<V>) -> Depot<V> {
         Depot {
             kept: Locked::new(kept),
         }
@@ -62,7 +62,7 @@ impl<V: Named> Depot<V> {
     }
 
     /// The map behind its lock, for code that is generic over who lends it.
-    pub fn lock(&self) -> &Locked<Kept<V>> {
+    pub fn as_locked(&self) -> &Locked<Kept<V>> {
         &self.kept
     }
 

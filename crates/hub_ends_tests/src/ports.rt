@@ -39,7 +39,7 @@ pub(crate) fn are_numbered(ports: &[Port], numbers: &[u32]) -> bool {
         return false;
     }
     for (port, number) in ports.iter().zip(numbers) {
-        if port.end() != EndId(*number) {
+        if port.id() != EndId(*number) {
             return false;
         }
     }
@@ -122,7 +122,7 @@ fn take_out(ports: &mut [Option<Port>], end: u32) -> Option<Port> {
 }
 
 fn put_in(ports: &mut [Option<Port>], port: Port) {
-    let end = port.end().0 as usize;
+    let end = port.id().0 as usize;
     if let Some(place) = ports.get_mut(end) {
         *place = Some(port);
     }

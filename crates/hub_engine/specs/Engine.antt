@@ -8,8 +8,8 @@ use Rattle.hub_engine.specs.declared.status.Device.{Device}
 use Rattle.hub_engine.specs.declared.status.ExitStatus.{ExitStatus}
 use Rattle.hub_engine.specs.declared.status.ExitStatus.TheVariants.{BadInput, OutOfMemory}
 use Rattle.hub_engine.specs.Beginning.{AppendsBeginning}
-use Rattle.hub_engine.specs.Counted.{failed_reads, failed_writes}
-use Rattle.hub_engine.specs.Failures.{one_counted}
+use Rattle.hub_engine.specs.Counted.{failed_reads, failed_writes, flushes_made, inner_reader, inner_writer}
+use Rattle.hub_engine.specs.Failures.{CountsFailure, CountsFlush, one_counted}
 use Rattle.hub_engine.specs.IsInput.{IsInput}
 use Rattle.hub_engine.specs.OutOfMemory.{out_of_memory}
 
@@ -18,6 +18,12 @@ use Rattle.hub_engine.specs.OutOfMemory.{out_of_memory}
 abbrev pub Writes : (ExitStatus → List ℕ → Type 0) → Option (List ℕ) → Option (List ℕ) → Result ExitStatus Device → Type 0
 Writes says old new (Ok status) = (text : List ℕ) × says status text × Appends old new text
 Writes says old new (Err failed) = (status : ExitStatus) × (text : List ℕ) × says status text × AppendsBeginning old new text
+
+-- An output was ended: its text written, a failed write counted, and all flushed where none failed.
+pub record EndsOutput {W : Type 0} (contents : W → Option (List ℕ)) (says : ExitStatus → List ℕ → Type 0) (old new : CountedWriter W) (result : Result ExitStatus Device) : Type 0 where
+  pub written : Writes says (contents (inner_writer old)) (contents (inner_writer new)) result
+  pub failures : CountsFailure result (failed_writes old) (failed_writes new)
+  pub flushed : CountsFlush result (flushes_made old) (flushes_made new)
 
 -- What an engine has written for all that its reader had left.
 abbrev pub AnswersInput : (List ℕ → ExitStatus → List ℕ → Type 0) → Option (List ℕ) → Option (List ℕ) → Option (List ℕ) → Result ExitStatus Device → Type 0
@@ -30,6 +36,12 @@ CountsDevice r r' w w' (Ok status) = (failed_reads r' ≡ failed_reads r) × (fa
 CountsDevice r r' w w' (Err failed) =
     ((failed_reads r' ≡ one_counted (failed_reads r)) × (w' ≡ w))
     ⊎ ((failed_reads r' ≡ failed_reads r) × (failed_writes w' ≡ one_counted (failed_writes w)))
+
+-- A whole input was answered: its text written, a failure counted, and all flushed where there was none.
+pub record EndsAnswer {R W : Type 0} (left : R → Option (List ℕ)) (contents : W → Option (List ℕ)) (output : List ℕ → ExitStatus → List ℕ → Type 0) (r r' : CountedReader R) (w w' : CountedWriter W) (result : Result ExitStatus Device) : Type 0 where
+  pub written : AnswersInput output (left (inner_reader r)) (contents (inner_writer w)) (contents (inner_writer w')) result
+  pub failures : CountsDevice r r' w w' result
+  pub flushed : CountsFlush result (flushes_made w) (flushes_made w')
 
 -- this text, with this status
 abbrev pub Says : ExitStatus → List ℕ → ExitStatus → List ℕ → Type 0

@@ -75,7 +75,7 @@ impl<W: Write> CountedWriter<W> {
     {
         match answer {
             Ok(count) if count > 0 => Ok(count),
-            _ => Err(self.failed()),
+            _ => Err(self.count_failure()),
         }
     }
 
@@ -88,11 +88,11 @@ impl<W: Write> CountedWriter<W> {
     {
         match answer {
             Ok(()) => Ok(()),
-            Err(_) => Err(self.failed()),
+            Err(_) => Err(self.count_failure()),
         }
     }
 
-    fn failed(&mut self) -> Device
+    fn count_failure(&mut self) -> Device
         ensures { self.new ≡ record self.old { failures = one_counted self.old.failures } }
     {
         self.failures = self.failures.wrapping_add(1);

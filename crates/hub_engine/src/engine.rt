@@ -1,8 +1,6 @@
 //! What the program's engines have in common: a whole input is read, and answered.
 
-ghost use Rattle.hub_engine.specs.Engine.{AnswersInput, CountsDevice};
-ghost use Rattle.hub_engine.specs.Counted.{inner_reader, inner_writer, flushes_made};
-ghost use Rattle.hub_engine.specs.Failures.{CountsFlush};
+ghost use Rattle.hub_engine.specs.Engine.{EndsAnswer};
 
 use crate::counted_reader::CountedReader;
 use crate::counted_writer::CountedWriter;
@@ -17,9 +15,7 @@ pub trait Engine {
     ghost use Rattle.std.specs.Prelude.{ℕ, List};
     ghost use Rattle.hub_engine.specs.declared.status.ExitStatus.{ExitStatus as Status};
     ghost use Rattle.hub_engine.specs.declared.status.ExitStatus.TheVariants as exit;
-    ghost use Rattle.hub_engine.specs.Counted.{inner_writer, flushes_made, failed_writes};
-    ghost use Rattle.hub_engine.specs.Engine.{Writes};
-    ghost use Rattle.hub_engine.specs.Failures.{CountsFailure, CountsFlush};
+    ghost use Rattle.hub_engine.specs.Engine.{EndsOutput};
     ghost use Rattle.hub_engine.specs.OutOfMemory.{out_of_memory};
 
     /// What is written for an input, by the exit status that is answered.
@@ -34,12 +30,7 @@ pub trait Engine {
         input: Vec<u8>,
         writer: &mut CountedWriter<W>,
     ) -> Result<ExitStatus, Device>
-        ensures written { Writes (output input.items) (W.contents (inner_writer writer.old))
-            (W.contents (inner_writer writer.new)) result }
-        ensures failures { CountsFailure result (failed_writes writer.old)
-            (failed_writes writer.new) }
-        ensures flushed { CountsFlush result (flushes_made writer.old)
-            (flushes_made writer.new) };
+        ensures { EndsOutput W.contents (output input.items) writer.old writer.new result };
 }
 
 /// Reads the input to its end and answers it.
@@ -51,10 +42,8 @@ pub fn run_engine<E: Engine, R: Read, W: Write>(
     reader: &mut CountedReader<R>,
     writer: &mut CountedWriter<W>,
 ) -> Result<ExitStatus, Device>
-    ensures written { AnswersInput E.output (R.remaining (inner_reader reader.old))
-        (W.contents (inner_writer writer.old)) (W.contents (inner_writer writer.new)) result }
-    ensures failures { CountsDevice reader.old reader.new writer.old writer.new result }
-    ensures flushed { CountsFlush result (flushes_made writer.old) (flushes_made writer.new) }
+    ensures { EndsAnswer R.remaining W.contents E.output
+        reader.old reader.new writer.old writer.new result }
 {
     match read_input(alloc, reader) {
         Ok(input) => E::answer(alloc, input, writer),

@@ -5,8 +5,8 @@ ghost use Rattle.std.specs.Io.KnownBytes.{Appends};
 ghost use Rattle.hub_engine.specs.declared.status.ExitStatus.TheVariants as exit;
 ghost use Rattle.hub_engine.specs.Beginning.{AppendsBeginning};
 ghost use Rattle.hub_engine.specs.Counted.{inner_writer, flushes_made, failed_writes};
-ghost use Rattle.hub_engine.specs.Engine.{Says, SaysUnread, Writes, bad_line_text};
-ghost use Rattle.hub_engine.specs.Failures.{CountsFailure, CountsFlush};
+ghost use Rattle.hub_engine.specs.Engine.{EndsOutput, Says, SaysUnread, bad_line_text};
+ghost use Rattle.hub_engine.specs.Failures.{CountsFailure};
 ghost use Rattle.hub_engine.specs.OutOfMemory.{out_of_memory};
 
 use crate::counted_writer::CountedWriter;
@@ -58,10 +58,7 @@ pub fn end_with<W: Write>(
     bytes: &[u8],
     status: ExitStatus,
 ) -> Result<ExitStatus, Device>
-    ensures written { Writes (Says status bytes.now) (W.contents (inner_writer writer.old))
-        (W.contents (inner_writer writer.new)) result }
-    ensures failures { CountsFailure result (failed_writes writer.old) (failed_writes writer.new) }
-    ensures flushed { CountsFlush result (flushes_made writer.old) (flushes_made writer.new) }
+    ensures { EndsOutput W.contents (Says status bytes.now) writer.old writer.new result }
 {
     write_whole(writer, bytes)?;
     writer.flush()?;
@@ -70,10 +67,8 @@ pub fn end_with<W: Write>(
 
 /// Ends for want of memory: `out of memory` is the last text line of the output.
 pub fn end_out_of_memory<W: Write>(writer: &mut CountedWriter<W>) -> Result<ExitStatus, Device>
-    ensures written { Writes (Says exit.OutOfMemory out_of_memory)
-        (W.contents (inner_writer writer.old)) (W.contents (inner_writer writer.new)) result }
-    ensures failures { CountsFailure result (failed_writes writer.old) (failed_writes writer.new) }
-    ensures flushed { CountsFlush result (flushes_made writer.old) (flushes_made writer.new) }
+    ensures { EndsOutput W.contents (Says exit.OutOfMemory out_of_memory)
+        writer.old writer.new result }
 {
     end_with(writer, OUT_OF_MEMORY, ExitStatus::OutOfMemory)
 }
@@ -86,10 +81,8 @@ pub fn end_unread<W: Write>(
     line: usize,
     kind: Option<&str>,
 ) -> Result<ExitStatus, Device>
-    ensures written { Writes (SaysUnread line (option_map (λ name. name.now) kind.entry))
-        (W.contents (inner_writer writer.old)) (W.contents (inner_writer writer.new)) result }
-    ensures failures { CountsFailure result (failed_writes writer.old) (failed_writes writer.new) }
-    ensures flushed { CountsFlush result (flushes_made writer.old) (flushes_made writer.new) }
+    ensures { EndsOutput W.contents (SaysUnread line (option_map (λ name. name.now) kind.entry))
+        writer.old writer.new result }
 {
     let Some(kind) = kind else {
         return end_out_of_memory(writer);

@@ -6,7 +6,7 @@ ghost use Rattle.hub_fan.specs.declared.fan.FanTaken.TheVariants.{Disabled};
 
 use crate::fan::FanTaken;
 use crate::hints::Hints;
-use crate::places::ask;
+use crate::places::take_from;
 use hub_line::{LineTaken, LineTaker};
 
 /// How many stages there are.
@@ -42,7 +42,7 @@ fn bounds_of(next: usize, count: usize, stage: usize) -> (usize, usize)
 
 /// Asks the lines of one stage.
 #[inline(always)]
-fn ask_stage<M: Drop>(
+fn take_in_stage<M: Drop>(
     lines: &mut [Option<LineTaker<M>>],
     next: usize,
     ready: u64,
@@ -58,10 +58,10 @@ fn ask_stage<M: Drop>(
     let (from, to) = bounds_of(next, lines.len(), stage);
     for line in from..to {
         if stage_at(next, ready, line) == stage {
-            match ask(&mut lines[line]) {
+            match take_from(&mut lines[line]) {
                 LineTaken::Item(message) => return FanTaken::Message(line, message),
                 LineTaken::Ended => return FanTaken::Ended(line),
-                LineTaken::Empty => hints.missed(line),
+                LineTaken::Empty => hints.record_miss(line),
             }
         }
     }
@@ -71,7 +71,7 @@ fn ask_stage<M: Drop>(
 /// Asks the lines in turn, from this one on, those that are ready first. It stops at the first that
 /// gives something.
 #[inline(always)]
-fn ask_in_turn<M: Drop>(
+fn take_by_stages<M: Drop>(
     lines: &mut [Option<LineTaker<M>>],
     next: usize,
     ready: u64,
@@ -83,7 +83,7 @@ fn ask_in_turn<M: Drop>(
     ensures some { result ≢ Disabled }
 {
     for stage in 0..STAGES {
-        match ask_stage(lines, next, ready, stage, hints) {
+        match take_in_stage(lines, next, ready, stage, hints) {
             FanTaken::Empty => {}
             given => return given,
         }
@@ -107,7 +107,7 @@ pub(crate) fn take_in_turn<M: Drop>(
     ensures from { IfFrom (λ i. i < length lines.old) result.0 }
     ensures some { result.0 ≢ Disabled }
 {
-    let taken = ask_in_turn(lines, next, ready, hints);
+    let taken = take_by_stages(lines, next, ready, hints);
     let ended = match &taken {
         FanTaken::Ended(line) => lines[*line].take(),
         _ => None,

@@ -2,7 +2,7 @@
 ghost use Rattle.std.specs.Prelude.{◌<◌, ◌≤◌, length};
 ghost use Rattle.hub_fan.specs.Fans.{Drained, IfHanded};
 
-use crate::places::hand_back;
+use crate::places::take_closed;
 use hub_line::{LineTaken, LineTaker};
 
 /// A fan that was closed: it hands back what was posted and not taken, up to the end of each line.
@@ -41,17 +41,17 @@ impl<M: Drop> FanGrave<M> {
         ensures drained { Drained result self.old.lines.items self.new.lines.items }
         ensures from { IfHanded (λ i. i < 32) result }
     {
-        drain_all(self.lines.as_mut_slice())
+        drain_next(self.lines.as_mut_slice())
     }
 }
 
-fn drain_all<M: Drop>(lines: &mut [Option<LineTaker<M>>]) -> FanDrained<M>
+fn drain_next<M: Drop>(lines: &mut [Option<LineTaker<M>>]) -> FanDrained<M>
     ensures drained { Drained result lines.old lines.new }
     ensures from { IfHanded (λ i. i < length lines.old) result }
 {
     let mut waiting = None;
     for line in 0..lines.len() {
-        match hand_back(&mut lines[line]) {
+        match take_closed(&mut lines[line]) {
             LineTaken::Item(message) => return FanDrained::Message(line, message),
             LineTaken::Empty => waiting = Some(line),
             LineTaken::Ended => {}

@@ -172,7 +172,7 @@ impl<M: Drop> Fan<M> {
         if !self.is_started {
             return FanTaken::Disabled;
         }
-        let ready = self.hints.ready();
+        let ready = self.hints.ready_lines();
         let lines = self.lines.as_mut_slice();
         let (taken, ended) = take_in_turn(lines, self.next, ready, &mut self.hints);
         self.ended = ended;

@@ -72,7 +72,7 @@ impl Hints {
     }
 
     /// The lines to ask first, each by its bit.
-    pub(crate) fn ready(&mut self) -> u64 {
+    pub(crate) fn ready_lines(&mut self) -> u64 {
         if self.misses >= MOST_MISSES {
             self.gather();
         }
@@ -80,7 +80,7 @@ impl Hints {
     }
 
     /// A line that was asked first gave nothing.
-    pub(crate) fn missed(&mut self, line: usize) {
+    pub(crate) fn record_miss(&mut self, line: usize) {
         self.known &= !bit_of(line);
         self.misses = self.misses.wrapping_add(1);
     }

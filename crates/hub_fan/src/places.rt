@@ -7,7 +7,7 @@ use hub_line::{LineTaken, LineTaker};
 
 /// Asks a place for its next message.
 #[inline(always)]
-pub(crate) fn ask<M: Drop>(place: &mut Option<LineTaker<M>>) -> LineTaken<M>
+pub(crate) fn take_from<M: Drop>(place: &mut Option<LineTaker<M>>) -> LineTaken<M>
     ensures { Answers result place.old place.new }
 {
     match place {
@@ -17,7 +17,7 @@ pub(crate) fn ask<M: Drop>(place: &mut Option<LineTaker<M>>) -> LineTaken<M>
 }
 
 /// Asks a place of a closed fan for its next message.
-pub(crate) fn hand_back<M: Drop>(place: &mut Option<LineTaker<M>>) -> LineTaken<M>
+pub(crate) fn take_closed<M: Drop>(place: &mut Option<LineTaker<M>>) -> LineTaken<M>
     ensures { HandsBack result place.old place.new }
 {
     match place {

@@ -128,7 +128,7 @@ impl Life {
     }
 
     /// How many extensions of the event that is being handled are open.
-    pub fn open_extensions(&self) -> u8
+    pub fn extension_count(&self) -> u8
         ensures { result ≡ self.now.open_extensions }
     {
         self.open_extensions

@@ -30,7 +30,7 @@ fn waiting_here<T: Drop>(
     let Some(used) = feed else {
         unreachable!();
     };
-    source.items_beside(used)
+    source.count_beside(used)
 }
 
 /// What waits in a line of which both ends are at hand.

@@ -135,7 +135,7 @@ impl<T: Drop> Source<T> {
     }
 
     /// How many items are there, for a thread that has both ends.
-    pub(crate) fn items_beside(&mut self, feed: &mut Feed<T>) -> usize
+    pub(crate) fn count_beside(&mut self, feed: &mut Feed<T>) -> usize
         requires { IsRing feed.old self.old }
         ensures same { SameSource self.old self.new × (given self.new ≡ given self.old) }
         ensures feed { SameFeed feed.old feed.new × (fed feed.new ≡ fed feed.old) }

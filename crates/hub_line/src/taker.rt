@@ -60,11 +60,11 @@ pub(crate) fn next_ahead<T: Drop>(
     match track {
         Track::First(_) => unreachable!(),
         Track::Onward(mut over, next) => {
-            source.items_beside(&mut over);
+            source.count_beside(&mut over);
             Ahead::Next(next)
         }
         Track::End(mut over) => {
-            source.items_beside(&mut over);
+            source.count_beside(&mut over);
             Ahead::Last
         }
     }

@@ -14,8 +14,9 @@ use Rattle.hub_loop.specs.States.{ClosedState, ClosingState, DeliveryState, Hold
 use Rattle.hub_clients.specs.declared.handed.HandedQueue.{HandedQueue}
 use Rattle.hub_ports.specs.Seats.{PortSeat}
 use Rattle.hub_queue.specs.Graves.{GraveSeat, SweptSeat}
-use Rattle.hub_loop.specs.declared.closed.ClosedPort.{ClosedPort}
-use Rattle.hub_loop.specs.Noticing.{open_port, port_numbers, ports_in, AreEnded, NamedBehind, IsTold, AreTold, NoticesMore}
+use Rattle.hub_ports.specs.declared.closing.ClosedPort.{ClosedPort}
+use Rattle.hub_ports.specs.Closing.{IsTold}
+use Rattle.hub_loop.specs.Noticing.{open_port, port_numbers, ports_in, AreEnded, NamedBehind, AreTold, NoticesMore}
 use Rattle.hub_loop.specs.Looping.{LoopState}
 use Rattle.hub_queue.specs.Standing.{StandSeat}
 use Rattle.hub_loop.specs.Closing.{IsOpenClosed}

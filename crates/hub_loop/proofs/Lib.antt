@@ -5,5 +5,6 @@ mod Looks
 mod Marks
 mod Pops
 mod Posts
+mod Runs
 mod Serves
 mod TakesNothing

@@ -14,11 +14,11 @@ use Rattle.hub_queue.specs.Adopting.{IsAdopted}
 use Rattle.hub_queue.specs.Ending.{IsClosed}
 use Rattle.hub_queue.specs.Graves.{GraveSeat}
 use Rattle.hub_queue.specs.Taking.{TakerSeat}
-use Rattle.hub_loop.specs.declared.closed.ClosedPort.{ClosedPort}
+use Rattle.hub_ports.specs.declared.closing.ClosedPort.{ClosedPort}
 use Rattle.hub_loop.specs.declared.held.Held.{Held}
 use Rattle.hub_loop.specs.declared.held.Held.TheVariants.{Port, Client, Worker}
 use Rattle.hub_loop.specs.States.{ClosedState, HoldingState, ReceivingState}
-use Rattle.hub_loop.specs.Noticing.{IsTold}
+use Rattle.hub_ports.specs.Closing.{IsTold}
 
 -- What is held grew by this, under a key where nothing was held.
 abbrev pub HoldsMore : Slab Held → Slab Held → Held → Type 0
@@ -39,7 +39,7 @@ IsUnfit why.OutOfMemory = ⊥
 IsUnfit why.TooManyMoves = Unit {0}
 IsUnfit why.Taken = Unit {0}
 
--- The port was closed with its notice: its grave is kept, and what is told of it.
+-- The port was closed with its notice: it is kept, and its grave.
 abbrev pub IsPortBuried : PortSeat → ClosedState → ClosedState → Type 0
 IsPortBuried p old new =
     (grave : GraveSeat) × (told : ClosedPort) × IsClosed p.taker grave × IsTold p told

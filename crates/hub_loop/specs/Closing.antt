@@ -10,7 +10,7 @@ use Rattle.hub_ports.specs.Seats.{PortSeat}
 use Rattle.hub_queue.specs.Ending.{IsClosed}
 use Rattle.hub_queue.specs.Taking.{TakerSeat}
 use Rattle.hub_loop.specs.declared.closed.ClosedEnd.{ClosedEnd}
-use Rattle.hub_loop.specs.declared.closed.ClosedPort.{ClosedPort}
+use Rattle.hub_ports.specs.declared.closing.ClosedPort.{ClosedPort}
 use Rattle.hub_loop.specs.declared.ending.Closed.{Closed}
 use Rattle.hub_loop.specs.declared.ending.StillOpen.{StillOpen}
 use Rattle.hub_loop.specs.declared.ending.StillOpen.TheVariants as still
@@ -18,7 +18,7 @@ use Rattle.hub_loop.specs.declared.held.Held.{Held}
 use Rattle.hub_loop.specs.declared.held.Held.TheVariants.{Port, Client, Worker, Member, Line}
 use Rattle.hub_loop.specs.Adopting.{HoldsMore}
 use Rattle.hub_loop.specs.Holding.{end_held}
-use Rattle.hub_loop.specs.Noticing.{IsTold}
+use Rattle.hub_ports.specs.Closing.{IsTold}
 
 -- the end was closed, and nothing is told of a port
 abbrev pub IsClosedAlone : TakerSeat → ClosedEnd → Type 0

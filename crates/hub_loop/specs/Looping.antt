@@ -1,5 +1,5 @@
 -- All that a loop has, as one value.
-use Rattle.std.specs.Prelude.{◌≡◌, ◌⊎◌, ℕ, Bool, List, Option, Some, Result}
+use Rattle.std.specs.Prelude.{◌≡◌, ◌⊎◌, ◌+◌, ℕ, Bool, List, [], ◌∷◌, Option, Some, Result, Ok, Err}
 use Rattle.hub_bell.specs.Seats.{BoardSeat}
 use Rattle.hub_bell.specs.declared.board.BoardStep.{BoardStep}
 use Rattle.hub_clients.specs.declared.handed.HandedQueue.{HandedQueue}
@@ -8,12 +8,14 @@ use Rattle.hub_envelope.specs.declared.ids.EndId.{EndId}
 use Rattle.hub_life.specs.OrderSeat.{OrderSeat}
 use Rattle.hub_ready.specs.Finding.{HasStepped}
 use Rattle.hub_queue.specs.Counting.{Count}
-use Rattle.hub_loop.specs.declared.closed.ClosedPort.{ClosedPort}
+use Rattle.hub_ports.specs.declared.closing.ClosedPort.{ClosedPort}
+use Rattle.hub_loop.specs.declared.error.LoopError.{LoopError}
 use Rattle.hub_loop.specs.declared.handler.Turn.{Turn}
+use Rattle.hub_loop.specs.declared.handler.Turn.TheVariants.{Ending}
 use Rattle.hub_loop.specs.Ending.{closing_ends, still_open}
 use Rattle.hub_loop.specs.Noticing.{AreEnded}
 use Rattle.hub_loop.specs.States.{ClosingState, DeliveryState, HoldingState}
-use Rattle.hub_loop.specs.Turning.{IsDue, IsTurn, TurnState}
+use Rattle.hub_loop.specs.Turning.{IsDue, IsTurn, Rests, TurnState}
 
 -- What the loop has seen of the order to end, and of the ends that rang; its handler; what it holds, with the ports that could not be adopted; the delivery that was kept and the queues that were fetched, for want of memory; and how far its end has come.
 pub record LoopState (H : Type 0) : Type 0 where
@@ -24,6 +26,11 @@ pub record LoopState (H : Type 0) : Type 0 where
   pub kept : Option DeliveryState
   pub fetched : List HandedQueue
   pub closing : Option ClosingState
+
+-- what the last turn of a run has come to
+abbrev pub last_turn : {X : Type 0} → Result X LoopError → Result Turn LoopError
+last_turn (Ok x) = Ok Ending
+last_turn (Err error) = Err error
 
 module _ {H : Type 0} where
   -- The loop took up what is due: what it stepped through at its listener may have told it which ends were rung.
@@ -41,6 +48,26 @@ module _ {H : Type 0} where
   MakesTurn leaves refuses old new before after result =
       (looks : List BoardStep) × HasStepped old.listener new.listener looks
       × IsTurn leaves refuses (turn_state old before) (turn_state new after) looks result
+
+  -- The loop rested after a turn.
+  abbrev pub HasRested : Turn → LoopState H → LoopState H → Type 0
+  HasRested turn old new = Rests turn old.listener.at new.listener.at × (new ≡ record old { listener = new.listener })
+
+  module _ (leaves refuses : H → Envelope → List EndId → H → Type 0) where
+    -- The loop looked once for the order to end, and made a turn.
+    abbrev pub TurnsOnce : LoopState H → LoopState H → Result Turn LoopError → Type 0
+    TurnsOnce old new result =
+        (before : Count) × (after : Count) × (new.order.looks ≡ old.order.looks + 1) × MakesTurn leaves refuses old new before after result
+
+    -- The loop made these turns, and rested after each.
+    abbrev pub HasTurned : List Turn → LoopState H → LoopState H → Type 0
+    HasTurned [] old new = new ≡ old
+    HasTurned (turn ∷ turns) old new =
+        (turned : LoopState H) × (rested : LoopState H) × TurnsOnce old turned (Ok turn) × HasRested turn turned rested × HasTurned turns rested new
+
+    -- The loop made turns, and rested after each, up to one that found the order to end, or failed.
+    abbrev pub Runs : {X : Type 0} → LoopState H → LoopState H → Result X LoopError → Type 0
+    Runs old new result = (turns : List Turn) × (last : LoopState H) × HasTurned turns old last × TurnsOnce last new (last_turn result)
 
   -- All else is as it was: what was fetched, and how far the end of the loop has come.
   abbrev pub SameButTurn : LoopState H → LoopState H → Type 0

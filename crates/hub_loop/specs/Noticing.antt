@@ -1,8 +1,8 @@
 -- What is told of the ports that were closed.
 use Rattle.std.specs.Prelude.{◌≡◌, List, [], ◌∷◌, ◌++◌, ℕ, map, filter_map, Option, Some, None}
-use Rattle.hub_ports.specs.Closing.{IsToldAs}
+use Rattle.hub_ports.specs.Closing.{IsTold}
 use Rattle.hub_ports.specs.Seats.{PortSeat}
-use Rattle.hub_loop.specs.declared.closed.ClosedPort.{ClosedPort}
+use Rattle.hub_ports.specs.declared.closing.ClosedPort.{ClosedPort}
 use Rattle.std.specs.List.Sorted.{IsNonDecreasing, IsNonDecreasingBy, IsPermutation}
 use Rattle.hub_queue.specs.Graves.{GraveSeat}
 use Rattle.hub_loop.specs.declared.ending.StillOpen.{StillOpen}
@@ -11,11 +11,7 @@ use Rattle.hub_loop.specs.declared.held.Held.TheVariants.{Port, Client, Worker, 
 use Rattle.hub_loop.specs.Ending.{closing_ends, grave_ends, open_ends, open_number}
 use Rattle.hub_loop.specs.States.{ClosingState}
 
--- what is told of the port: its number, its line, and what became there of its notice
-abbrev pub IsTold : PortSeat → ClosedPort → Type 0
-IsTold p c = IsToldAs p c.end c.line c.noticed
-
--- what is told of each of these ports, in this order
+-- each of these ports was closed, in this order
 abbrev pub AreTold : List PortSeat → List ClosedPort → Type 0
 AreTold [] told = told ≡ []
 AreTold (p ∷ ps) told = (c : ClosedPort) × (rest : List ClosedPort) × (told ≡ c ∷ rest) × IsTold p c × AreTold ps rest

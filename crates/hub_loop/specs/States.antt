@@ -6,7 +6,7 @@ use Rattle.hub_envelope.specs.declared.ids.EndId.{EndId}
 use Rattle.hub_ports.specs.Seats.{PortSeat}
 use Rattle.hub_queue.specs.Graves.{GraveSeat, SweptSeat}
 use Rattle.hub_queue.specs.Standing.{StandSeat}
-use Rattle.hub_loop.specs.declared.closed.ClosedPort.{ClosedPort}
+use Rattle.hub_ports.specs.declared.closing.ClosedPort.{ClosedPort}
 use Rattle.hub_loop.specs.declared.ending.Closed.{Closed}
 use Rattle.hub_loop.specs.declared.ends.HeldEnds.{HeldEnds}
 use Rattle.hub_loop.specs.declared.ends.Holding.{Holding}

@@ -95,7 +95,7 @@ impl<H: Handler + Drop, C: Checkpoint + Drop> EventLoop<H, C> {
         ensures none { IfNone result (HoldsNoPort self.old.holding.ends.held end) }
     {
         let key = self.holding.ends.find_end(Sought::Port, end)?;
-        self.holding.ends.lend(key)?.as_port()
+        self.holding.ends.lend(key)?.as_port_mut()
     }
 
     /// Lends the client's queue of this number. `None` where the loop doesn't hold it.
@@ -105,7 +105,7 @@ impl<H: Handler + Drop, C: Checkpoint + Drop> EventLoop<H, C> {
         ensures none { IfNone result (HoldsNoClient self.old.holding.ends.held end) }
     {
         let key = self.holding.ends.find_end(Sought::Client, end)?;
-        self.holding.ends.lend(key)?.as_client()
+        self.holding.ends.lend(key)?.as_client_mut()
     }
 
     /// Lends the member of this number. `None` where the loop doesn't hold it.
@@ -116,7 +116,7 @@ impl<H: Handler + Drop, C: Checkpoint + Drop> EventLoop<H, C> {
         ensures none { IfNone result (HoldsNoMember self.old.holding.ends.held end) }
     {
         let key = self.holding.ends.find_end(Sought::Member, end)?;
-        self.holding.ends.lend(key)?.as_member()
+        self.holding.ends.lend(key)?.as_member_mut()
     }
 
     /// Lends a line that posts at the end of this number. `None` where the loop holds none.
@@ -126,7 +126,7 @@ impl<H: Handler + Drop, C: Checkpoint + Drop> EventLoop<H, C> {
         ensures none { IfNone result (HoldsNoLine self.old.holding.ends.held end) }
     {
         let key = self.holding.ends.find_line(end)?;
-        self.holding.ends.lend(key)?.as_line()
+        self.holding.ends.lend(key)?.as_line_mut()
     }
 
     /// Whether it holds a line that posts at the end of this number.

@@ -23,7 +23,7 @@ ghost use Rattle.hub_loop.specs.Marking.{MarksKept};
 ghost use Rattle.hub_loop.specs.States.{holding_of};
 ghost use Rattle.hub_ready.specs.Marking.{HasBit};
 
-use crate::closed::ClosedPort;
+use crate::closed::close_arrived;
 use crate::delivery::Receiving;
 use crate::ends::Holding;
 use crate::held::Held;
@@ -71,7 +71,7 @@ impl Holding {
         ensures err { OnErr result (SameStored (holding_of self.old) (holding_of self.new)) }
         ensures marks { MarksKept self.old.ends self.new.ends }
     {
-        let Ok(bell) = self.prepare(queue.end()) else {
+        let Ok(bell) = self.prepare(queue.id()) else {
             return Err(queue);
         };
         match adopt_handed(rt, hub, queue, bell) {
@@ -116,7 +116,7 @@ impl Holding {
         let Some(first) = receiving.found.front() else {
             return Ok(false);
         };
-        let end = first.end();
+        let end = first.id();
         receiving.missing.reserve(1)?;
         let bell = self.prepare(end)?;
         let arrived = receiving.found.pop_front().unwrap();
@@ -130,7 +130,7 @@ impl Holding {
                 Err(OutOfMemory)
             }
             Err((AdoptError::TooManyMoves | AdoptError::Taken, arrived)) => {
-                let (grave, port) = ClosedPort::close_arrived(rt, hub, arrived);
+                let (grave, port) = close_arrived(rt, hub, arrived);
                 self.closed.bury(grave, port);
                 receiving.missing.push_reserved(end);
                 Ok(true)

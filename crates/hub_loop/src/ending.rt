@@ -40,7 +40,7 @@ ghost use Rattle.hub_loop.specs.declared.ending.StillOpen.TheVariants.{
 };
 ghost use Rattle.hub_loop.specs.declared.held.Held.TheVariants.{Line as LineHeld};
 
-use crate::closed::{ClosedEnd, ClosedPort};
+use crate::closed::{ClosedEnd, close_arrived};
 use crate::delivery::Undelivered;
 use crate::ends::{HeldEnds, Holding};
 use crate::error::LoopError;
@@ -52,7 +52,7 @@ use hub_broadcast::Roster;
 use hub_clients::{Directory, HandedQueue};
 use hub_envelope::{EndId, OutOfMemory};
 use hub_locked::Lends;
-use hub_ports::{Arrived, Hub};
+use hub_ports::{Arrived, ClosedPort, Hub};
 use hub_queue::{Grave, Poster};
 use slab::Slab;
 use std::alloc::Global;
@@ -72,13 +72,13 @@ pub(crate) enum StillOpen {
 
 impl StillOpen {
     /// The number of the end, or of the end at which the line posts.
-    pub(crate) fn end(&self) -> EndId
+    pub(crate) fn id(&self) -> EndId
         ensures { result ≡ open_number self.now }
     {
         match self {
-            StillOpen::Held(held) => held.end(),
-            StillOpen::Queue(queue) => queue.end(),
-            StillOpen::Arrived(arrived) => arrived.end(),
+            StillOpen::Held(held) => held.id(),
+            StillOpen::Queue(queue) => queue.id(),
+            StillOpen::Arrived(arrived) => arrived.id(),
         }
     }
 
@@ -91,7 +91,7 @@ impl StillOpen {
             StillOpen::Held(held) => held.shut(rt, hub),
             StillOpen::Queue(queue) => Ok(ClosedEnd::alone(queue.close())),
             StillOpen::Arrived(arrived) => {
-                Ok(ClosedEnd::of_port(ClosedPort::close_arrived(rt, hub, arrived)))
+                Ok(ClosedEnd::of_port(close_arrived(rt, hub, arrived)))
             }
         }
     }
@@ -225,7 +225,7 @@ fn take_found(alloc: Global, kept: &mut Option<Undelivered>) -> VecDeque<Arrived
 }
 
 /// Puts what was held to what is to be closed. There is room for it.
-fn open_held(held: Slab<Held>, opened: &mut Vec<StillOpen>)
+fn add_held(held: Slab<Held>, opened: &mut Vec<StillOpen>)
     requires { vec_len opened.old + length (entries held) ≤ vec_capacity opened.old }
     ensures items { opened.new.items
         ≡ opened.old.items ++ map (λ entry. HeldOpen entry.1) (entries held) }
@@ -238,7 +238,7 @@ fn open_held(held: Slab<Held>, opened: &mut Vec<StillOpen>)
 }
 
 /// The same of the queues that were fetched.
-fn open_queues(queues: Vec<HandedQueue>, opened: &mut Vec<StillOpen>)
+fn add_queues(queues: Vec<HandedQueue>, opened: &mut Vec<StillOpen>)
     requires { vec_len opened.old + vec_len queues ≤ vec_capacity opened.old }
     ensures items { opened.new.items ≡ opened.old.items ++ map QueueOpen queues.items }
     ensures len { vec_len opened.new ≡ vec_len opened.old + vec_len queues }
@@ -250,7 +250,7 @@ fn open_queues(queues: Vec<HandedQueue>, opened: &mut Vec<StillOpen>)
 }
 
 /// The same of the ports that were found.
-fn open_ports(found: VecDeque<Arrived>, opened: &mut Vec<StillOpen>)
+fn add_ports(found: VecDeque<Arrived>, opened: &mut Vec<StillOpen>)
     requires { vec_len opened.old + deque_len found ≤ vec_capacity opened.old }
     ensures items { opened.new.items ≡ opened.old.items ++ map ArrivedOpen found.items }
     ensures len { vec_len opened.new ≡ vec_len opened.old + deque_len found }
@@ -286,9 +286,9 @@ impl Holding {
             ready: _,
             lines: _,
         } = replace(&mut self.ends, HeldEnds::new(alloc));
-        open_held(held, &mut opened);
-        open_queues(replace(fetched, Vec::new(alloc)), &mut opened);
-        open_ports(take_found(alloc, kept), &mut opened);
+        add_held(held, &mut opened);
+        add_queues(replace(fetched, Vec::new(alloc)), &mut opened);
+        add_ports(take_found(alloc, kept), &mut opened);
         Ok(opened)
     }
 }
@@ -350,7 +350,7 @@ impl<H: Handler + Drop, C: Checkpoint + Drop> EventLoop<H, C> {
         let mut opened = self
             .holding
             .take_open(self.alloc, &mut self.fetched, &mut self.kept)?;
-        opened.sort_unstable_by_key(|open| open.end().0);
+        opened.sort_unstable_by_key(|open| open.id().0);
         leave_all(rt, roster, opened.as_slice());
         self.holding.closed.close_all(rt, hub, opened);
         let closed = replace(&mut self.holding.closed, Closed::new(self.alloc));

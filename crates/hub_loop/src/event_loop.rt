@@ -30,6 +30,7 @@ ghost use Rattle.hub_loop.specs.Adopting.{
 };
 ghost use Rattle.hub_loop.specs.Looping.{
   MakesTurn,
+  Runs,
   SameButFetched,
   SameButTaken,
   SameButTurn,
@@ -152,7 +153,7 @@ impl<H: Handler + Drop, C: Checkpoint + Drop> EventLoop<H, C> {
         ensures rest { IfOk result (λ opened. (opened.fetched ≡ [])
             × (opened.holding.closed.graves ≡ []) × (opened.closing ≡ None)) }
     {
-        let holding = Holding::new(alloc, bell.bell()?);
+        let holding = Holding::new(alloc, bell.new_bell()?);
         Ok(EventLoop {
             alloc,
             agent,
@@ -259,7 +260,8 @@ impl<H: Handler + Drop, C: Checkpoint + Drop> EventLoop<H, C> {
     ///
     /// After `OutOfMemory` the next call goes on, as after a turn.
     pub fn run<R: Wait>(&mut self, rt: &R, hub: &Hub) -> Result<(), LoopError>
-        ensures { OnOk result (knows self.new.order ≡ true) }
+        ensures ran { Runs H.leaves H.refuses self.old self.new result }
+        ensures ordered { OnOk result (knows self.new.order ≡ true) }
     {
         self.run_counted::<Brand, R>(rt, hub, Blank::new(2))
     }
@@ -271,13 +273,15 @@ impl<H: Handler + Drop, C: Checkpoint + Drop> EventLoop<H, C> {
         blank: Blank,
     ) -> Result<(), LoopError>
         requires { (blank.name ≡ L.name) × (blank.parts ≡ L.parts) × (L.parts ≡ 2) }
-        ensures { OnOk result (knows self.new.order ≡ true) }
+        ensures ran { Runs H.leaves H.refuses self.old self.new result }
+        ensures ordered { OnOk result (knows self.new.order ≡ true) }
     {
         let mut steps = Steps::<L>::begin(blank);
         for _ in rt.forever() {
-            match self.turn(rt, hub, &mut steps)? {
-                Turn::Ending => return Ok(()),
-                turn => self.rest(rt, turn),
+            match self.turn(rt, hub, &mut steps) {
+                Ok(Turn::Ending) => return Ok(()),
+                Ok(turn) => self.rest(rt, turn),
+                Err(error) => return Err(error),
             }
         }
         unreachable!()
@@ -333,7 +337,7 @@ fn take_fetched<R: Wait>(
     ensures capacity { vec_capacity fetched.new ≡ vec_capacity fetched.old }
 {
     for place in 0..fetched.len() {
-        if fetched[place].end() == end {
+        if fetched[place].id() == end {
             return Some(fetched.swap_remove(place));
         }
     }

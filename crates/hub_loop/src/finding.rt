@@ -54,7 +54,7 @@ fn is_end(slot: Option<&Held>, kind: Sought, end: EndId) -> bool
     ensures { (result ≡ true) ↔ IsSlotOf (IsEndOf kind end) (option_copied slot.entry) }
 {
     match slot {
-        Some(held) => held.is_a(kind) && held.end() == end,
+        Some(held) => held.is_a(kind) && held.id() == end,
         None => false,
     }
 }
@@ -89,7 +89,7 @@ impl HeldEnds {
         ensures held { HoldsMore self.old.held self.new.held held }
         ensures marks { MarksKept self.old self.new }
     {
-        let end = held.as_end();
+        let end = held.end_id();
         let key = self.held.insert_reserved(held);
         if let Some(end) = end {
             self.ready.place(end, key);
@@ -103,7 +103,7 @@ impl HeldEnds {
         ensures err { OnErr result (SameValues self.old.held self.new.held) }
         ensures marks { MarksKept self.old self.new }
     {
-        if self.make_room(held.as_end()).is_err() {
+        if self.make_room(held.end_id()).is_err() {
             return Err((LoopError::OutOfMemory, held));
         }
         if list_line(&mut self.lines, &held, self.held.vacant_key()).is_err() {
@@ -226,7 +226,7 @@ impl HeldEnds {
     {
         let mut numbers = Vec::new(alloc);
         for (_, held) in self.held.iter() {
-            if let Some(end) = held.as_end() {
+            if let Some(end) = held.end_id() {
                 numbers.push(end)?;
             }
         }

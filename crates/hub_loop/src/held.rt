@@ -15,7 +15,7 @@ ghost use Rattle.hub_loop.specs.declared.held.Held.TheVariants.{
   Line as LineHeld,
 };
 
-use crate::closed::{ClosedEnd, ClosedPort};
+use crate::closed::{ClosedEnd, close_port};
 use hub_broadcast::{Member, Roster, leave_in};
 use hub_clients::{ClientQueue, WorkerQueue};
 use hub_envelope::EndId;
@@ -47,25 +47,25 @@ pub(crate) enum Sought {
 
 impl Held {
     /// The number of the end, or of the end at which the line posts.
-    pub fn end(&self) -> EndId
+    pub fn id(&self) -> EndId
         ensures { result ≡ number_held self.now }
     {
         match self {
-            Held::Port(port) => port.end(),
-            Held::Client(queue) => queue.end(),
-            Held::Worker(queue) => queue.end(),
-            Held::Member(member) => member.end(),
+            Held::Port(port) => port.id(),
+            Held::Client(queue) => queue.id(),
+            Held::Worker(queue) => queue.id(),
+            Held::Member(member) => member.id(),
             Held::Line(poster) => poster.name().end,
         }
     }
 
     /// The number of the end, where it is no line.
-    pub(crate) fn as_end(&self) -> Option<EndId>
+    pub(crate) fn end_id(&self) -> Option<EndId>
         ensures { result ≡ end_held self.now }
     {
         match self {
             Held::Line(_) => None,
-            held => Some(held.end()),
+            held => Some(held.id()),
         }
     }
 
@@ -83,7 +83,7 @@ impl Held {
     }
 
     /// The port, where it is one.
-    pub(crate) fn as_port(&mut self) -> Option<&mut Port>
+    pub(crate) fn as_port_mut(&mut self) -> Option<&mut Port>
         ensures some { IfSome result (λ port. self.old ≡ PortHeld port.now) }
         ensures none { IfNone result ((port : PortSeat) → self.old ≢ PortHeld port) }
     {
@@ -94,7 +94,7 @@ impl Held {
     }
 
     /// The client's queue, where it is one.
-    pub(crate) fn as_client(&mut self) -> Option<&mut ClientQueue>
+    pub(crate) fn as_client_mut(&mut self) -> Option<&mut ClientQueue>
         ensures some { IfSome result (λ queue. self.old ≡ ClientHeld queue.now) }
         ensures none { IfNone result ((queue : TakerSeat) → self.old ≢ ClientHeld queue) }
     {
@@ -105,7 +105,7 @@ impl Held {
     }
 
     /// The member, where it is one.
-    pub(crate) fn as_member(&mut self) -> Option<&mut Member>
+    pub(crate) fn as_member_mut(&mut self) -> Option<&mut Member>
         ensures some { IfSome result (λ member. self.old ≡ MemberHeld member.now) }
         ensures none { IfNone result ((member : MemberSeat) → self.old ≢ MemberHeld member) }
     {
@@ -116,7 +116,7 @@ impl Held {
     }
 
     /// The line, where it is one.
-    pub(crate) fn as_line(&mut self) -> Option<&mut Poster>
+    pub(crate) fn as_line_mut(&mut self) -> Option<&mut Poster>
         ensures some { IfSome result (λ line. self.old ≡ LineHeld line.now) }
         ensures none { IfNone result ((line : StandSeat) → self.old ≢ LineHeld line) }
     {
@@ -182,7 +182,7 @@ impl Held {
         ensures { L.shown roster.new ≡ left_by self.now (L.shown roster.old) }
     {
         if let Held::Member(member) = self {
-            leave_in(rt, roster, member.end());
+            leave_in(rt, roster, member.id());
         }
     }
 
@@ -192,7 +192,7 @@ impl Held {
         ensures err { IfErr result (λ line. self ≡ LineHeld line) }
     {
         match self {
-            Held::Port(port) => Ok(ClosedEnd::of_port(ClosedPort::close(rt, hub, port))),
+            Held::Port(port) => Ok(ClosedEnd::of_port(close_port(rt, hub, port))),
             Held::Client(queue) => Ok(ClosedEnd::alone(queue.close())),
             Held::Worker(queue) => Ok(ClosedEnd::alone(queue.close())),
             Held::Member(member) => Ok(ClosedEnd::alone(member.close())),

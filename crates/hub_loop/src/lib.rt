@@ -16,7 +16,7 @@ mod posting;
 mod serving;
 mod sweeping;
 
-pub use closed::{ClosedEnd, ClosedPort};
+pub use closed::ClosedEnd;
 pub use error::LoopError;
 pub use event_loop::EventLoop;
 pub use handler::{Checkpoint, Handler, NoCheckpoint, Turn};

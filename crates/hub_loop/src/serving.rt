@@ -71,7 +71,7 @@ fn is_listed(held: &Slab<Held>, ready: &Ready, key: usize) -> bool
     ensures { result ≡ true → IsListedAt ready.now.listed.items key (get held.now key) }
 {
     match held.get(key) {
-        Some(held) => match held.as_end() {
+        Some(held) => match held.end_id() {
             Some(end) => ready.leads_to(end, key),
             None => true,
         },

@@ -5,12 +5,12 @@ ghost use Rattle.std.specs.List.Sorted.{IsNonDecreasing, IsPermutation};
 ghost use Rattle.hub_loop.specs.Ending.{grave_ends, swept_ends, closing_ends};
 ghost use Rattle.hub_loop.specs.Noticing.{NamedBehind};
 
-use crate::closed::ClosedPort;
+use crate::closed::close_arrived;
 use crate::delivery::Undelivered;
 use crate::ending::Closed;
 use hub_clients::Directory;
 use hub_envelope::{Envelope, OutOfMemory};
-use hub_ports::{Arrival, Arrived, Hub};
+use hub_ports::{Arrival, Arrived, ClosedPort, Hub};
 use hub_queue::{Grave, Poster, Swept};
 use std::alloc::Global;
 use std::collections::VecDeque;
@@ -121,7 +121,7 @@ fn close_found<R: Wait>(
         graves.reserve(1)?;
         noticed.reserve(1)?;
         let arrived = found.pop_front().unwrap();
-        let (grave, port) = ClosedPort::close_arrived(rt, hub, arrived);
+        let (grave, port) = close_arrived(rt, hub, arrived);
         graves.push_back_reserved(grave);
         noticed.push_reserved(port);
     }
@@ -185,7 +185,7 @@ impl Shutdown {
             noticed,
             lines,
         } = closed;
-        graves.sort_unstable_by_key(|grave| grave.end().0);
+        graves.sort_unstable_by_key(|grave| grave.id().0);
         Shutdown {
             found: VecDeque::new(alloc),
             graves: VecDeque::from_vec(graves),

@@ -197,7 +197,7 @@ fn makes_another<R: Wait>(rt: &R, shared: &Shared) -> Option<bool> {
         .directory
         .client(rt, &mut Ends { drawn: 2 }, bell)
         .ok()?;
-    let is_next = queue.end().0 == 2;
+    let is_next = queue.id().0 == 2;
     drop(queue);
     Some(is_next)
 }

@@ -1,7 +1,7 @@
 //! What a loop leaves when it ends.
 use hub_envelope::{EndId, Envelope, LineId};
-use hub_loop::{ClosedPort, Ended};
-use hub_ports::Noticed;
+use hub_loop::Ended;
+use hub_ports::{ClosedPort, Noticed};
 use hub_queue::{Posted, Swept};
 use hub_test_parts::is_message;
 
@@ -26,7 +26,7 @@ pub(crate) fn are_swept(swept: &[Swept], rows: &[(u32, &[Message])]) -> bool {
         return false;
     }
     for (swept, (end, row)) in swept.iter().zip(rows) {
-        if swept.end().0 != *end || !are_messages(swept.envelopes(), row) {
+        if swept.id().0 != *end || !are_messages(swept.envelopes(), row) {
             return false;
         }
     }

@@ -8,9 +8,7 @@ use Rattle.hub_modes.specs.declared.program.Mode.TheVariants.{Steps, Run, Check}
 use Rattle.hub_engine.specs.declared.status.ExitStatus.{ExitStatus}
 use Rattle.hub_engine.specs.declared.status.ExitStatus.TheVariants.{Usage}
 use Rattle.hub_check.specs.CheckOutput.{IsCheckOutput}
-use Rattle.hub_engine.specs.Counted.{inner_reader, inner_writer, flushes_made}
-use Rattle.hub_engine.specs.Engine.{AnswersInput, CountsDevice}
-use Rattle.hub_engine.specs.Failures.{CountsFlush}
+use Rattle.hub_engine.specs.Engine.{EndsAnswer}
 use Rattle.hub_steps.specs.Output.{IsStepsOutput}
 use Rattle.hub_modes.specs.RunOutput.{IsScriptOutput}
 
@@ -24,7 +22,4 @@ output_of Check = IsCheckOutput
 -- and reader and writer are as they were.
 abbrev pub AnswersWords : {R W : Type 0} → Option Mode → (R → Option (List ℕ)) → (W → Option (List ℕ)) → CountedReader R → CountedReader R → CountedWriter W → CountedWriter W → Result ExitStatus Device → Type 0
 AnswersWords None left contents r r' w w' result = (result ≡ Ok Usage) × (r' ≡ r) × (w' ≡ w)
-AnswersWords (Some mode) left contents r r' w w' result =
-    AnswersInput (output_of mode) (left (inner_reader r)) (contents (inner_writer w)) (contents (inner_writer w')) result
-    × CountsDevice r r' w w' result
-    × CountsFlush result (flushes_made w) (flushes_made w')
+AnswersWords (Some mode) left contents r r' w w' result = EndsAnswer left contents (output_of mode) r r' w w' result

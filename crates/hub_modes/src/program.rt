@@ -1,9 +1,7 @@
 //! What the program is asked to do, and does, for its arguments.
 
 ghost use Rattle.std.specs.Prelude.{◌≡◌, map, string_bytes};
-ghost use Rattle.hub_engine.specs.Counted.{flushes_made, inner_reader, inner_writer};
-ghost use Rattle.hub_engine.specs.Engine.{AnswersInput, CountsDevice};
-ghost use Rattle.hub_engine.specs.Failures.{CountsFlush};
+ghost use Rattle.hub_engine.specs.Engine.{EndsAnswer};
 ghost use Rattle.hub_modes.specs.Mode.{mode_asked};
 ghost use Rattle.hub_modes.specs.Program.{AnswersWords, output_of};
 
@@ -66,10 +64,8 @@ pub fn run_mode<R: Read, W: Write, T: Threads + Wait + Sync>(
     reader: &mut CountedReader<R>,
     writer: &mut CountedWriter<W>,
 ) -> Result<ExitStatus, Device>
-    ensures written { AnswersInput (output_of mode) (R.remaining (inner_reader reader.old))
-        (W.contents (inner_writer writer.old)) (W.contents (inner_writer writer.new)) result }
-    ensures failures { CountsDevice reader.old reader.new writer.old writer.new result }
-    ensures flushed { CountsFlush result (flushes_made writer.old) (flushes_made writer.new) }
+    ensures { EndsAnswer R.remaining W.contents (output_of mode)
+        reader.old reader.new writer.old writer.new result }
 {
     match mode {
         Mode::Steps => run_steps(alloc, reader, writer),

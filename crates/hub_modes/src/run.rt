@@ -3,9 +3,7 @@
 ghost use Rattle.std.specs.Prelude.{◌≡◌, ◌++◌, IfOk, OnOk, string_bytes};
 ghost use Rattle.std.specs.List.{flat_map};
 ghost use Rattle.hub_trace.specs.Text.{log_text};
-ghost use Rattle.hub_engine.specs.Counted.{failed_writes, flushes_made, inner_reader, inner_writer};
-ghost use Rattle.hub_engine.specs.Engine.{AnswersInput, CountsDevice, Writes};
-ghost use Rattle.hub_engine.specs.Failures.{CountsFailure, CountsFlush};
+ghost use Rattle.hub_engine.specs.Engine.{EndsAnswer, EndsOutput};
 ghost use Rattle.hub_modes.specs.RunOutput.{
   IsRunText,
   IsScriptOutput,
@@ -39,10 +37,8 @@ pub fn run_file<C: Checkpoint + Sync, R: Read, W: Write, T: Threads + Wait + Syn
     checkpoint: &C,
     writer: &mut CountedWriter<W>,
 ) -> Result<ExitStatus, Device>
-    ensures written { AnswersInput IsScriptOutput (R.remaining (inner_reader reader.old))
-        (W.contents (inner_writer writer.old)) (W.contents (inner_writer writer.new)) result }
-    ensures failures { CountsDevice reader.old reader.new writer.old writer.new result }
-    ensures flushed { CountsFlush result (flushes_made writer.old) (flushes_made writer.new) }
+    ensures { EndsAnswer R.remaining W.contents IsScriptOutput
+        reader.old reader.new writer.old writer.new result }
 {
     match read_input(alloc, reader) {
         Ok(input) => run_input(alloc, rt, &input, checkpoint, writer),
@@ -59,10 +55,7 @@ fn run_input<C: Checkpoint + Sync, W: Write, T: Threads + Wait + Sync>(
     checkpoint: &C,
     writer: &mut CountedWriter<W>,
 ) -> Result<ExitStatus, Device>
-    ensures written { Writes (IsScriptOutput input.now) (W.contents (inner_writer writer.old))
-        (W.contents (inner_writer writer.new)) result }
-    ensures failures { CountsFailure result (failed_writes writer.old) (failed_writes writer.new) }
-    ensures flushed { CountsFlush result (flushes_made writer.old) (flushes_made writer.new) }
+    ensures { EndsOutput W.contents (IsScriptOutput input.now) writer.old writer.new result }
 {
     match Script::read(alloc, input) {
         Ok(script) => run_script(alloc, rt, &script, checkpoint, writer),
@@ -83,10 +76,7 @@ pub fn run_script<C: Checkpoint + Sync, W: Write, T: Threads + Wait + Sync>(
     checkpoint: &C,
     writer: &mut CountedWriter<W>,
 ) -> Result<ExitStatus, Device>
-    ensures written { Writes (SaysRun script.now) (W.contents (inner_writer writer.old))
-        (W.contents (inner_writer writer.new)) result }
-    ensures failures { CountsFailure result (failed_writes writer.old) (failed_writes writer.new) }
-    ensures flushed { CountsFlush result (flushes_made writer.old) (flushes_made writer.new) }
+    ensures { EndsOutput W.contents (SaysRun script.now) writer.old writer.new result }
 {
     match run_agents(alloc, rt, script, checkpoint) {
         Ok(run) => write_run(alloc, &run.logs, writer),
@@ -100,19 +90,16 @@ fn write_run<W: Write>(
     logs: &[Log],
     writer: &mut CountedWriter<W>,
 ) -> Result<ExitStatus, Device>
-    ensures written { Writes (IsRunText logs.now) (W.contents (inner_writer writer.old))
-        (W.contents (inner_writer writer.new)) result }
-    ensures failures { CountsFailure result (failed_writes writer.old) (failed_writes writer.new) }
-    ensures flushed { CountsFlush result (flushes_made writer.old) (flushes_made writer.new) }
+    ensures { EndsOutput W.contents (IsRunText logs.now) writer.old writer.new result }
 {
-    match run_text(alloc, logs) {
+    match text_of_run(alloc, logs) {
         Ok((text, status)) => end_with(writer, text.as_bytes(), status),
         Err(_) => end_out_of_memory(writer),
     }
 }
 
 /// What a run with these logs prints, and how the program ends after it.
-fn run_text(alloc: Global, logs: &[Log]) -> Result<(String, ExitStatus), OutOfMemory>
+fn text_of_run(alloc: Global, logs: &[Log]) -> Result<(String, ExitStatus), OutOfMemory>
     ensures { IfOk result (λ run. IsRunText logs.now run.1 (string_bytes run.0)) }
 {
     let lines = deliveries(alloc, logs)?;

@@ -10,7 +10,7 @@ use hub_loop::{Held, Turn};
 use hub_ports::Hub;
 use hub_steps::Shown;
 use hub_test_parts::{Loop, turn};
-use hub_text::{next_word, number_of};
+use hub_text::{number_of, split_word};
 use std::str;
 use std::sync::Wait;
 
@@ -63,8 +63,8 @@ fn asked_with_two(word: &str, number: u32, other: u32) -> Option<Asked> {
 /// What a text line asks for. `None` where it is to be a step line.
 pub(crate) fn asked_in(bytes: &[u8]) -> Option<Asked> {
     let text = str::from_utf8(bytes).ok()?;
-    let (word, rest) = next_word(text)?;
-    match next_word(rest) {
+    let (word, rest) = split_word(text)?;
+    match split_word(rest) {
         Some((first, second)) => asked_with_two(word, number(first)?, number(second)?),
         None => asked_with_one(word, number(rest)?),
     }

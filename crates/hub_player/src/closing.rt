@@ -33,7 +33,7 @@ impl Player {
         let Some(event_loop) = loop_of(&mut self.agents, agent) else {
             return Err(Stop::Unexpected);
         };
-        let Some(closed) = event_loop.close(rt, &self.hub, &mut self.roster.lock(), end) else {
+        let Some(closed) = event_loop.close(rt, &self.hub, &mut self.roster.as_locked(), end) else {
             return Err(Stop::Unexpected);
         };
         let ClosedEnd { grave, port } = closed;
@@ -91,7 +91,7 @@ impl Player {
     }
 
     fn bury(&mut self, grave: Grave) -> Result<(), Stop> {
-        match self.seat_mut(grave.end()) {
+        match self.seat_mut(grave.id()) {
             Some(seat) => {
                 seat.bury(grave);
                 Ok(())

@@ -7,7 +7,8 @@ use crate::seat::{Place, Seat};
 use crate::told::Told;
 use hub_core::Outcome;
 use hub_envelope::{AgentId, EndId, Items};
-use hub_loop::{ClosedPort, Ended};
+use hub_loop::Ended;
+use hub_ports::ClosedPort;
 use hub_queue::Swept;
 use hub_steps::Shown;
 use hub_test_parts::Loop;
@@ -41,10 +42,10 @@ impl Player {
 
     /// What a loop leaves. Where there was no memory the next call goes on.
     fn ended<R: Wait>(&self, rt: &R, event_loop: Loop) -> Result<Ended, Stop> {
-        match event_loop.end(rt, &self.hub, &self.directory, &mut self.roster.lock()) {
+        match event_loop.end(rt, &self.hub, &self.directory, &mut self.roster.as_locked()) {
             Ok(ended) => Ok(ended),
             Err((_, event_loop)) => {
-                match event_loop.end(rt, &self.hub, &self.directory, &mut self.roster.lock()) {
+                match event_loop.end(rt, &self.hub, &self.directory, &mut self.roster.as_locked()) {
                     Ok(ended) => Ok(ended),
                     Err(_) => Err(Stop::OutOfMemory),
                 }
@@ -101,7 +102,7 @@ impl Player {
     }
 
     fn tell_sweep(&mut self, swept: Swept, told: &mut Told) -> Result<(), Stop> {
-        let end = swept.end();
+        let end = swept.id();
         let Some(seat) = self.seat_mut(end) else {
             return Err(Stop::Unexpected);
         };

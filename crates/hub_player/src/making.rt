@@ -47,7 +47,7 @@ impl Player {
 
     /// Keeps a new end, which the loop of its agent holds. Whether its number is the next one.
     fn add(&mut self, kind: Kind, agent: AgentId, held: Held) -> bool {
-        let is_next = held.end().0 as usize == self.seats.len();
+        let is_next = held.id().0 as usize == self.seats.len();
         let is_held = hold(&mut self.agents, agent, held);
         self.seats.push(Seat::new(kind, agent)).is_ok() && is_next && is_held
     }
@@ -69,7 +69,7 @@ impl Player {
     }
 
     fn add_ports(&mut self, agent: AgentId, first: Port, second: Port) -> Result<Shown, Stop> {
-        let (one, other) = (first.end(), second.end());
+        let (one, other) = (first.id(), second.id());
         let has_one = self.add(Kind::Port, agent, Held::Port(first));
         let has_other = self.add(Kind::Port, agent, Held::Port(second));
         if has_one && has_other {
@@ -81,7 +81,7 @@ impl Player {
 
     /// What is shown of a new end.
     fn added(&mut self, kind: Kind, agent: AgentId, held: Held) -> Result<Shown, Stop> {
-        let end = held.end();
+        let end = held.id();
         if self.add(kind, agent, held) {
             answer(Outcome::End(end))
         } else {

@@ -74,7 +74,7 @@ impl Player {
     ) -> Result<Shown, Stop> {
         let mut are_held = true;
         for port in ports {
-            if let Some(seat) = self.seat_mut(port.end()) {
+            if let Some(seat) = self.seat_mut(port.id()) {
                 seat.place = Place::Held;
             }
             are_held = hold(&mut self.agents, agent, Held::Port(port)) && are_held;

@@ -135,7 +135,7 @@ impl Player {
     fn got<R: Wait>(&mut self, rt: &R, agent: AgentId, envelope: Envelope) -> Result<Shown, Stop> {
         let arrived = self.arrivals(rt, &envelope)?;
         for arrived in arrived {
-            if let Some(seat) = self.seat_mut(arrived.end()) {
+            if let Some(seat) = self.seat_mut(arrived.id()) {
                 seat.arrive(arrived, agent);
             }
         }

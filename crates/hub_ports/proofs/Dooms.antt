@@ -1,5 +1,5 @@
 -- Ports that a doomed message closes one after another.
-use Rattle.std.proofs.Common.{arith, ◌≡◌, ℕ, zero, suc, ◌<◌, ◌≤◌, List, [], ◌∷◌, ◌++◌, length, refl, ap, sym, inl, inr, ◌∙◌, append_assoc, length-append, Option, Some, Ok, Err}
+use Rattle.std.proofs.Common.{arith, ◌≡◌, ℕ, zero, suc, ◌<◌, ◌≤◌, List, [], ◌∷◌, ◌++◌, length, refl, ap, sym, inl, inr, ◌∙◌, subst, append_assoc, length-append, Option, Some, None, Ok, Err}
 use Rattle.hub_envelope.specs.Notice.{notice_draft}
 use Rattle.hub_envelope.specs.declared.envelope.Draft.{Draft}
 use Rattle.hub_envelope.specs.declared.ids.EndId.{EndId}
@@ -15,10 +15,10 @@ use Rattle.hub_queue.specs.Standing.{StandSeat}
 use Rattle.hub_queue.specs.TakerQueues.{TakerQueueSeat}
 use Rattle.hub_queue.specs.Taking.{TakerSeat}
 use Rattle.hub_queue.proofs.Below.{parts_snoc}
-use Rattle.hub_ports.specs.declared.closing.Closing.{Closing}
+use Rattle.hub_ports.specs.declared.closing.ClosedPort.{ClosedPort}
 use Rattle.hub_ports.specs.declared.closing.Noticed.{Noticed}
 use Rattle.hub_ports.specs.declared.closing.Noticed.TheVariants as noticed
-use Rattle.hub_ports.specs.Closing.{IsNoticed, IsToldAs, IsDoomedAs, AreDoomed}
+use Rattle.hub_ports.specs.Closing.{IsNoticed, IsTold, IsDoomedAs, AreDoomed}
 use Rattle.hub_ports.specs.Seats.{PortSeat}
 
 leaves_unrung : (old : StandSeat) (hops : ℕ) (left : _) → LeavesBehind old hops left → LeavesBehind (unrung old) hops left
@@ -55,29 +55,33 @@ newest_shut t g q closed (older, newest) =
     sym ((parts_snoc t.retired older (closed_queue t.newest) q (sym (ap (λ (grave : GraveSeat). grave.queues) closed) ∙ newest)).1)
 
 -- a port was closed, and its notice put or refused on its line
-pub told_one : (p : PortSeat) (spent : StandSeat) (end : EndId) (line : Option StandSeat) (n : Noticed) → line ≡ Some (unrung spent) → end ≡ record { 0 = p.taker.end } → IsNoticed p.poster spent n → IsToldAs p end line n
-told_one p spent end line n shown same told = (same, (unrung spent, shown, noticed_unrung p.poster spent n told))
+told_line : (p : PortSeat) (spent : StandSeat) (c : ClosedPort) → c.line ≡ Some (unrung spent) → c.end ≡ record { 0 = p.taker.end } → IsNoticed p.poster spent c.noticed → IsTold p c
+told_line p spent c line same told = (same, (unrung spent, line, noticed_unrung p.poster spent c.noticed told))
+
+pub told_one : (p : PortSeat) (spent : StandSeat) (end : EndId) (n : Noticed) (c : ClosedPort) → c ≡ record { end = end; queue = None; line = Some (unrung spent); noticed = n } → end ≡ record { 0 = p.taker.end } → IsNoticed p.poster spent n → IsTold p c
+told_one p spent end n c is same told =
+    told_line p spent c (ap (λ (c : ClosedPort). c.line) is) (ap (λ (c : ClosedPort). c.end) is ∙ same) (subst (IsNoticed p.poster spent) (sym (ap (λ (c : ClosedPort). c.noticed) is)) told)
 
 -- and what shows its newest queue
-pub doomed_one : (p : PortSeat) (g : GraveSeat) (spent : StandSeat) (c : Closing) (q : TakerQueueSeat) → c.queue ≡ Some q → c.line ≡ Some (unrung spent) → c.end ≡ record { 0 = p.taker.end } → IsClosed p.taker g → IsNewestOf g q → IsNoticed p.poster spent c.noticed → IsDoomedAs p c
-doomed_one p g spent c q queue line end closed newest told = (
-  told_one p spent c.end c.line c.noticed line end told,
-  queue ∙ ap Some (newest_shut p.taker g q closed newest),
+pub doomed_one : (p : PortSeat) (g : GraveSeat) (spent : StandSeat) (end : EndId) (n : Noticed) (c : ClosedPort) (q : TakerQueueSeat) → c ≡ record { end = end; queue = None; line = Some (unrung spent); noticed = n } → end ≡ record { 0 = p.taker.end } → IsClosed p.taker g → IsNewestOf g q → IsNoticed p.poster spent n → IsDoomedAs p (record c { queue = Some q })
+doomed_one p g spent end n c q is same closed newest told = (
+  told_one p spent end n c is same told,
+  ap Some (newest_shut p.taker g q closed newest),
 )
 
 -- one more was closed
-pub doomed_more : (ps : List PortSeat) (cs : List Closing) (p : PortSeat) (c : Closing) → AreDoomed ps cs → IsDoomedAs p c → AreDoomed (ps ++ p ∷ []) (cs ++ c ∷ [])
+pub doomed_more : (ps : List PortSeat) (cs : List ClosedPort) (p : PortSeat) (c : ClosedPort) → AreDoomed ps cs → IsDoomedAs p c → AreDoomed (ps ++ p ∷ []) (cs ++ c ∷ [])
 doomed_more [] cs p c h one = (c, [], ap (λ xs. xs ++ c ∷ []) h, one, refl)
 doomed_more (q ∷ ps) cs p c h one =
     (h.0, h.1 ++ c ∷ [], ap (λ xs. xs ++ c ∷ []) h.2, h.3, doomed_more ps h.1 p c h.4 one)
 
 -- as many closings as ports
-length_doomed : (ps : List PortSeat) (cs : List Closing) → AreDoomed ps cs → length cs ≡ length ps
+length_doomed : (ps : List PortSeat) (cs : List ClosedPort) → AreDoomed ps cs → length cs ≡ length ps
 length_doomed [] cs h = ap length h
 length_doomed (q ∷ ps) cs h = ap length h.2 ∙ ap (λ n. suc n) (length_doomed ps h.1 h.4)
 
 -- there is room for the closing of the next port
-pub room_left : (most : ℕ) (all done rest after : List PortSeat) (p : PortSeat) (cs : List Closing) → length all ≤ most → all ≡ done ++ rest → rest ≡ p ∷ after → AreDoomed done cs → length cs < most
+pub room_left : (most : ℕ) (all done rest after : List PortSeat) (p : PortSeat) (cs : List ClosedPort) → length all ≤ most → all ≡ done ++ rest → rest ≡ p ∷ after → AreDoomed done cs → length cs < most
 room_left most all done rest after p cs few split next h =
     let whole = ap length (split ∙ ap (λ xs. done ++ xs) next) in
     let each = length_doomed done cs h in

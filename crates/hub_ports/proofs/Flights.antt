@@ -11,7 +11,7 @@ use Rattle.hub_depot.proofs.Keys.{keys_total}
 use Rattle.hub_depot.proofs.ManyPut.{remove-insert}
 use Rattle.hub_envelope.specs.declared.ids.EndId.{EndId}
 use Rattle.hub_ports.specs.Arriving.{Flight}
-use Rattle.hub_ports.specs.declared.closing.Closing.{Closing}
+use Rattle.hub_ports.specs.declared.closing.ClosedPort.{ClosedPort}
 use Rattle.hub_ports.specs.declared.error.SendRefusal.{SendRefusal}
 use Rattle.hub_ports.specs.declared.error.SendRefusal.TheVariants.{Closed, Moving, OutOfMemory, Doomed, TooManyPorts, Strayed, Taken}
 use Rattle.hub_ports.specs.declared.parcel.Parcel.{Parcel}
@@ -144,7 +144,7 @@ flight-whole TooManyPorts h = absurd h
 flight-whole Strayed h = absurd h
 
 -- the error tells that the very ports came back
-gives_whole : (all : List PortSeat) (r : SendRefusal) (parcel : Parcel) (closings : List Closing) → IsWhole r → parcel.ports.items ≡ all → GivesBack all (error_with r parcel closings)
+gives_whole : (all : List PortSeat) (r : SendRefusal) (parcel : Parcel) (closings : List ClosedPort) → IsWhole r → parcel.ports.items ≡ all → GivesBack all (error_with r parcel closings)
 gives_whole all Closed parcel closings whole same = same
 gives_whole all Moving parcel closings whole same = same
 gives_whole all OutOfMemory parcel closings whole same = same
@@ -156,7 +156,7 @@ gives_whole all Strayed parcel closings whole same = absurd whole
 -- a parcel was refused, and its ports were called back
 pub flown_back : (was now later : Option Flight) (all begun : List PortSeat) (numbers : List EndId) (parcel : Parcel) (r told_as : SendRefusal) → IsWhole r → IfSome was (λ kept. HaveFlownBehind kept all begun now)
     → ((kept : Flight) (sent : List PortSeat) → now ≡ Some (in_flight kept sent) → AreFree kept sent → numbers ≡ ends_of begun ++ ends_of sent → (parcel.ports.items ≡ begun ++ sent) × (parcel.missing.items ≡ []) × (later ≡ Some kept))
-    → numbers ≡ ends_of all → (parcel.missing.items ≡ [] → told_as ≡ r) → IfSome was (λ kept. (closings : List Closing) → (later ≡ Some kept) × GivesBack all (error_with told_as parcel closings))
+    → numbers ≡ ends_of all → (parcel.missing.items ≡ [] → told_as ≡ r) → IfSome was (λ kept. (closings : List ClosedPort) → (later ≡ Some kept) × GivesBack all (error_with told_as parcel closings))
 flown_back None now later all begun numbers parcel r told_as of flown called named whole = tt
 flown_back (Some kept) now later all begun numbers parcel r told_as of (sent, split, flown) called named whole = λ closings.
     let came = called kept sent flown.now_is flown.free (named ∙ ap ends_of split ∙ map-append end_of begun sent) in

@@ -7,7 +7,7 @@ use Rattle.hub_queue.specs.declared.error.PostError.TheVariants as why
 use Rattle.hub_queue.specs.Posting.{IsPosted}
 use Rattle.hub_queue.specs.Standing.{StandSeat}
 use Rattle.hub_ports.specs.declared.error.SendRefusal.{SendRefusal}
-use Rattle.hub_ports.specs.declared.closing.Closing.{Closing}
+use Rattle.hub_ports.specs.declared.closing.ClosedPort.{ClosedPort}
 use Rattle.hub_ports.specs.declared.error.SendRefusal.TheVariants.{Closed, Moving, OutOfMemory, Doomed, TooManyPorts, Strayed, Taken}
 use Rattle.hub_ports.specs.declared.parcel.Parcel.{Parcel}
 use Rattle.hub_ports.specs.Refusing.{carried_body, error_with, refusal_of, IsOfFlight}
@@ -17,13 +17,13 @@ use Rattle.hub_ports.specs.Splitting.{IsSplit}
 use Rattle.hub_ports.proofs.Splits.{split-whole}
 
 -- the error where all ports came back from a line
-whole_line : (old new : StandSeat) (draft : Draft) (ports : List PortSeat) (parcel : Parcel) (closings : List Closing) (why : PostError) → IsRefusedAtLine old new draft why → CameBack draft (carried_body parcel) parcel.ports.items → IsUnsent old new draft ports (error_with (refusal_of why) parcel closings)
+whole_line : (old new : StandSeat) (draft : Draft) (ports : List PortSeat) (parcel : Parcel) (closings : List ClosedPort) (why : PostError) → IsRefusedAtLine old new draft why → CameBack draft (carried_body parcel) parcel.ports.items → IsUnsent old new draft ports (error_with (refusal_of why) parcel closings)
 whole_line old new draft ports parcel closings why.Closed h came = (h, came)
 whole_line old new draft ports parcel closings why.Moving h came = (h, came)
 whole_line old new draft ports parcel closings why.OutOfMemory h came = (inl h, came)
 
 -- the error where all ports came back that were kept out of flight
-whole_flight : (s : StandSeat) (draft : Draft) (ports : List PortSeat) (parcel : Parcel) (closings : List Closing) (r : SendRefusal) → IsOfFlight r → CameBack draft (carried_body parcel) parcel.ports.items → IsUnsent s s draft ports (error_with r parcel closings)
+whole_flight : (s : StandSeat) (draft : Draft) (ports : List PortSeat) (parcel : Parcel) (closings : List ClosedPort) (r : SendRefusal) → IsOfFlight r → CameBack draft (carried_body parcel) parcel.ports.items → IsUnsent s s draft ports (error_with r parcel closings)
 whole_flight s draft ports parcel closings OutOfMemory h came = (inr refl, came)
 whole_flight s draft ports parcel closings Taken h came = (refl, came)
 whole_flight s draft ports parcel closings Closed h came = absurd h
@@ -33,7 +33,7 @@ whole_flight s draft ports parcel closings TooManyPorts h came = absurd h
 whole_flight s draft ports parcel closings Strayed h came = absurd h
 
 -- the error that is told: the whole one, or which ports are missing
-told : (old new : StandSeat) (draft : Draft) (ports : List PortSeat) (parcel : Parcel) (closings : List Closing) (whole r : SendRefusal) (ms : List EndId) → parcel.missing.items ≡ ms → carried_body parcel ≡ draft.body → IsSplit draft.ports (ends_of parcel.ports.items) parcel.missing.items → ((why : PostError) × IsRefusedAtLine old new draft why) ⊎ (new ≡ old)
+told : (old new : StandSeat) (draft : Draft) (ports : List PortSeat) (parcel : Parcel) (closings : List ClosedPort) (whole r : SendRefusal) (ms : List EndId) → parcel.missing.items ≡ ms → carried_body parcel ≡ draft.body → IsSplit draft.ports (ends_of parcel.ports.items) parcel.missing.items → ((why : PostError) × IsRefusedAtLine old new draft why) ⊎ (new ≡ old)
     → (CameBack draft (carried_body parcel) parcel.ports.items → IsUnsent old new draft ports (error_with whole parcel closings)) → (parcel.missing.items ≡ [] → r ≡ whole) → (0 < length parcel.missing.items → r ≡ Strayed) → IsUnsent old new draft ports (error_with r parcel closings)
 told old new draft ports parcel closings whole r [] is same split h came all some =
     subst (λ (x : SendRefusal). IsUnsent old new draft ports (error_with x parcel closings)) (sym (all is)) (came (same, split-whole draft.ports (ends_of parcel.ports.items) parcel.missing.items split is))
@@ -43,14 +43,14 @@ told old new draft ports parcel closings whole r (m ∷ ms) is same split h came
     subst (λ (x : SendRefusal). IsUnsent old new draft ports (error_with x parcel closings)) (sym (some count)) (h, same, count, split)
 
 -- the line refused the parcel
-pub refused_by_line : (old new : StandSeat) (draft : Draft) (ports : List PortSeat) (parcel : Parcel) (closings : List Closing) (r told_as : SendRefusal) (why : PostError) → r ≡ refusal_of why → carried_body parcel ≡ draft.body → IsSplit draft.ports (ends_of parcel.ports.items) parcel.missing.items → IsRefusedAtLine old new draft why
+pub refused_by_line : (old new : StandSeat) (draft : Draft) (ports : List PortSeat) (parcel : Parcel) (closings : List ClosedPort) (r told_as : SendRefusal) (why : PostError) → r ≡ refusal_of why → carried_body parcel ≡ draft.body → IsSplit draft.ports (ends_of parcel.ports.items) parcel.missing.items → IsRefusedAtLine old new draft why
     → (parcel.missing.items ≡ [] → told_as ≡ r) → (0 < length parcel.missing.items → told_as ≡ Strayed) → IsUnsent old new draft ports (error_with told_as parcel closings)
 refused_by_line old new draft ports parcel closings r told_as why which same split h all some =
     told old new draft ports parcel closings (refusal_of why) told_as parcel.missing.items refl same split (inl (why, h)) (whole_line old new draft ports parcel closings why h)
     (λ none. all none ∙ which) some
 
 -- a port was kept out of flight
-pub refused_by_flight : (s : StandSeat) (draft : Draft) (ports : List PortSeat) (parcel : Parcel) (closings : List Closing) (r told_as : SendRefusal) → IsOfFlight r → carried_body parcel ≡ draft.body → IsSplit draft.ports (ends_of parcel.ports.items) parcel.missing.items → (parcel.missing.items ≡ [] → told_as ≡ r) → (0 < length parcel.missing.items → told_as ≡ Strayed) → IsUnsent s s draft ports (error_with told_as parcel closings)
+pub refused_by_flight : (s : StandSeat) (draft : Draft) (ports : List PortSeat) (parcel : Parcel) (closings : List ClosedPort) (r told_as : SendRefusal) → IsOfFlight r → carried_body parcel ≡ draft.body → IsSplit draft.ports (ends_of parcel.ports.items) parcel.missing.items → (parcel.missing.items ≡ [] → told_as ≡ r) → (0 < length parcel.missing.items → told_as ≡ Strayed) → IsUnsent s s draft ports (error_with told_as parcel closings)
 refused_by_flight s draft ports parcel closings r told_as of same split all some =
     told s s draft ports parcel closings r told_as parcel.missing.items refl same split (inr refl) (whole_flight s draft ports parcel closings r of) all some
 

@@ -2,7 +2,6 @@
 use Rattle.std.specs.Prelude.{◌≡◌, ◌⊎◌, List, [], ◌∷◌, ◌++◌, Option, Some, None, Ok, Err}
 use Rattle.std.specs.FinMap as map
 use Rattle.hub_envelope.specs.Notice.{notice_draft}
-use Rattle.hub_envelope.specs.declared.ids.EndId.{EndId}
 use Rattle.hub_queue.specs.declared.error.PostError.TheVariants as why
 use Rattle.hub_queue.specs.Ending.{closed_queue}
 use Rattle.hub_queue.specs.Graves.{GraveSeat, SweptSeat}
@@ -12,7 +11,7 @@ use Rattle.hub_queue.specs.Standing.{StandSeat}
 use Rattle.hub_queue.specs.Sweeping.{IsSweptOut}
 use Rattle.hub_queue.specs.TakerQueues.{TakerQueueSeat}
 use Rattle.hub_queue.specs.Taking.{TakerSeat}
-use Rattle.hub_ports.specs.declared.closing.Closing.{Closing}
+use Rattle.hub_ports.specs.declared.closing.ClosedPort.{ClosedPort}
 use Rattle.hub_ports.specs.declared.closing.Noticed.{Noticed}
 use Rattle.hub_ports.specs.declared.closing.Noticed.TheVariants.{Put, PeerClosed, Moving, OutOfMemory}
 use Rattle.hub_ports.specs.Arriving.{Flight}
@@ -33,19 +32,19 @@ IsShutAs p queue = queue ≡ Some (closed_queue p.taker.newest)
 abbrev pub IsLeftAs : PortSeat → Option StandSeat → Noticed → Type 0
 IsLeftAs p line noticed = (spent : StandSeat) × (line ≡ Some spent) × IsNoticed (unrung p.poster) spent noticed
 
--- what is told of a port that was closed: its number, its line, and what became there of its notice
-abbrev pub IsToldAs : PortSeat → EndId → Option StandSeat → Noticed → Type 0
-IsToldAs p end line noticed = (end ≡ end_of p) × IsLeftAs p line noticed
+-- the port was closed: its number, its line, and what became there of its notice
+abbrev pub IsTold : PortSeat → ClosedPort → Type 0
+IsTold p c = (c.end ≡ end_of p) × IsLeftAs p c.line c.noticed
 
--- a port that a doomed message has closed: what is told of it, and its own end that was closed
-abbrev pub IsDoomedAs : PortSeat → Closing → Type 0
-IsDoomedAs p c = IsToldAs p c.end c.line c.noticed × IsShutAs p c.queue
+-- a doomed message has closed the port, and with it its own end
+abbrev pub IsDoomedAs : PortSeat → ClosedPort → Type 0
+IsDoomedAs p c = IsTold p c × IsShutAs p c.queue
 
 -- each port of a list was closed, in this order
-abbrev pub AreDoomed : List PortSeat → List Closing → Type 0
+abbrev pub AreDoomed : List PortSeat → List ClosedPort → Type 0
 AreDoomed [] closings = closings ≡ []
 AreDoomed (p ∷ ps) closings =
-    (closing : Closing) × (rest : List Closing) × (closings ≡ closing ∷ rest) × IsDoomedAs p closing × AreDoomed ps rest
+    (closing : ClosedPort) × (rest : List ClosedPort) × (closings ≡ closing ∷ rest) × IsDoomedAs p closing × AreDoomed ps rest
 
 -- what is left of an end that was emptied, and, where it was a port's that was closed in this call, its line and what became of its notice
 abbrev pub Emptied : Type 0

@@ -4,7 +4,7 @@ use Rattle.hub_envelope.specs.declared.posted.Posted.{Posted}
 use Rattle.hub_queue.specs.declared.error.PostError.{PostError}
 use Rattle.hub_queue.specs.declared.error.PostError.TheVariants as why
 use Rattle.hub_queue.specs.Putting.{lent_list}
-use Rattle.hub_ports.specs.declared.closing.Closing.{Closing}
+use Rattle.hub_ports.specs.declared.closing.ClosedPort.{ClosedPort}
 use Rattle.hub_ports.specs.declared.error.PortError.{PortError}
 use Rattle.hub_ports.specs.declared.error.PortError.TheVariants as error
 use Rattle.hub_ports.specs.declared.error.SendRefusal.{SendRefusal}
@@ -28,7 +28,7 @@ abbrev pub carried_body : Parcel → List ℕ
 carried_body parcel = lent_list parcel.body
 
 -- the error that tells of a refusal what came back in the parcel, and which ports were closed
-abbrev pub error_with : SendRefusal → Parcel → List Closing → PortError
+abbrev pub error_with : SendRefusal → Parcel → List ClosedPort → PortError
 error_with Closed parcel closings = error.Closed (carried_body parcel) parcel.ports
 error_with Moving parcel closings = error.Moving (carried_body parcel) parcel.ports
 error_with OutOfMemory parcel closings = error.OutOfMemory (carried_body parcel) parcel.ports
@@ -38,7 +38,7 @@ error_with Strayed parcel closings = error.Strayed parcel.missing (carried_body 
 error_with Taken parcel closings = error.Taken (carried_body parcel) parcel.ports
 
 -- the answer that tells the same
-abbrev pub answer_with : Result Posted SendRefusal → Parcel → List Closing → Result Posted PortError
+abbrev pub answer_with : Result Posted SendRefusal → Parcel → List ClosedPort → Result Posted PortError
 answer_with (Ok posted) parcel closings = Ok posted
 answer_with (Err refusal) parcel closings = Err (error_with refusal parcel closings)
 

@@ -7,7 +7,7 @@ ghost use Rattle.hub_ports.specs.Seats.{ends_of};
 ghost use Rattle.hub_ports.specs.Splitting.{IsSplit};
 
 use crate::closing::{Noticed, Spent, close_port};
-use crate::flight::place;
+use crate::flight::flight_key;
 use crate::hub::Hub;
 use crate::port::Port;
 use hub_depot::{Kept, take_in};
@@ -40,10 +40,10 @@ impl Arrived {
     ghost use Rattle.hub_ports.specs.Seats.{end_of};
 
     /// The number of its end.
-    pub fn end(&self) -> EndId
+    pub fn id(&self) -> EndId
         ensures { result ≡ end_of self.now }
     {
-        self.port.end()
+        self.port.id()
     }
 
     /// Adopts the port for the loop that this bell wakes (WHATWG HTML, "Message ports": the
@@ -106,7 +106,7 @@ pub fn arrive_from<L: Lends<Kept<Port>>, R: Wait>(
     let mut found = Vec::with_capacity(alloc, numbers.len())?;
     let mut missing = Vec::with_capacity(alloc, numbers.len())?;
     for number in numbers {
-        match take_in(rt, flight, place(*number)) {
+        match take_in(rt, flight, flight_key(*number)) {
             Some(port) => found.push_reserved(Arrived { port }),
             None => missing.push_reserved(*number),
         }

@@ -66,13 +66,12 @@ impl Spent {
     }
 }
 
-/// A port that a doomed message has closed.
-#[derive(Drop)]
-pub struct Closing {
+/// A port that was closed.
+pub struct ClosedPort {
     /// The number of the port.
     pub end: EndId,
-    // What shows its newest queue. That there is one is a byte, which stands where the number
-    // leaves room; what shows it, and the line, has none.
+    // What shows its newest queue, where a doomed message has closed it. That there is one is a
+    // byte, which stands where the number leaves room; what shows it, and the line, has none.
     pub(crate) queue: Option<ShutQueue>,
     // What shows the line on which the notice was put or refused.
     pub(crate) line: LeftLine,
@@ -80,29 +79,61 @@ pub struct Closing {
     pub noticed: Noticed,
 }
 
+// By hand, so that whoever drops one makes one call, and its proof has no cases of its fields.
+impl Drop for ClosedPort {
+    fn drop(self) {
+        let ClosedPort {
+            end: _,
+            queue,
+            line,
+            noticed: _,
+        } = self;
+        drop(queue);
+        drop(line);
+    }
+}
+
+impl ClosedPort {
+    ghost use Rattle.std.specs.Prelude.{◌≡◌, None, Some};
+    ghost use Rattle.hub_queue.specs.Left.{unrung};
+
+    /// The port of that number, of which closing has left this poster and this notice.
+    pub fn new(end: EndId, spent: Spent, noticed: Noticed) -> ClosedPort
+        ensures { result
+            ≡ record { end = end; queue = None; line = Some (unrung spent); noticed = noticed } }
+    {
+        ClosedPort {
+            end,
+            queue: None,
+            line: spent.into_left(),
+            noticed,
+        }
+    }
+}
+
 /// The ports that a doomed message has closed, in the order in which they were closed. It takes no
 /// memory.
 #[derive(Drop)]
 pub struct Closings {
-    closings: [Closing; MAX_PORTS],
+    ports: [ClosedPort; MAX_PORTS],
     count: usize,
 }
 
 impl Model for Closings {
     ghost use Rattle.std.specs.Prelude.{List, take, ◌≤◌};
     ghost use Rattle.hub_envelope.specs.declared.limits.TheConstants.{MAX_PORTS};
-    ghost use Rattle.hub_ports.specs.declared.closing.Closing.{Closing};
+    ghost use Rattle.hub_ports.specs.declared.closing.ClosedPort.{ClosedPort};
 
-    ghost Value = { List Closing };
+    ghost Value = { List ClosedPort };
 
-    ghost view = { λ c. take c.count c.closings };
+    ghost view = { λ c. take c.count c.ports };
 
     ghost invariant = { λ c. c.count ≤ MAX_PORTS };
 }
 
 /// No port: it holds the place of one.
-fn vacant() -> Closing {
-    Closing {
+fn vacant() -> ClosedPort {
+    ClosedPort {
         end: EndId(0),
         queue: None,
         line: LeftLine::none(),
@@ -119,25 +150,25 @@ impl Closings {
         ensures { result ≡ [] }
     {
         Closings {
-            closings: array::from_fn(|_| vacant()),
+            ports: array::from_fn(|_| vacant()),
             count: 0,
         }
     }
 
     /// Adds the port that was closed last.
-    pub(crate) fn push(&mut self, closing: Closing)
+    pub(crate) fn push(&mut self, port: ClosedPort)
         requires { length self.old < MAX_PORTS }
-        ensures { self.new ≡ self.old ++ closing ∷ [] }
+        ensures { self.new ≡ self.old ++ port ∷ [] }
     {
-        self.closings[self.count] = closing;
+        self.ports[self.count] = port;
         self.count += 1;
     }
 
     /// The ports in order of closing.
-    pub fn as_slice(&self) -> &[Closing]
+    pub fn as_slice(&self) -> &[ClosedPort]
         ensures { result.now ≡ self.now }
     {
-        &self.closings[..self.count]
+        &self.ports[..self.count]
     }
 }
 
@@ -179,7 +210,7 @@ fn shut<H: Hears<ClosingStep>, R: Wait>(rt: &R, taker: Taker, heard: &mut H) -> 
     ensures told { H.told heard.new ≡ option_map (λ list.
         list ++ ClosingStep.Close (record { 0 = taker.end }) ∷ []) (H.told heard.old) }
 {
-    let end = taker.end();
+    let end = taker.id();
     let grave = taker.close();
     heard.tell(rt, ClosingStep::Close(end));
     grave
@@ -187,7 +218,7 @@ fn shut<H: Hears<ClosingStep>, R: Wait>(rt: &R, taker: Taker, heard: &mut H) -> 
 
 /// Closes a port: the notice first, while its own end is open, and then that end. Whoever is told
 /// hears each step where it is done, so a contract sees their order.
-pub fn close_in_order<H: Hears<ClosingStep>, R: Wait>(
+pub fn close_and_tell<H: Hears<ClosingStep>, R: Wait>(
     rt: &R,
     alloc: Global,
     yard: &Depot<Onward>,
@@ -215,7 +246,7 @@ pub(crate) fn close_port<R: Wait>(
     ensures grave { IsClosed port.taker result.0 }
     ensures notice { IsNoticed port.poster result.1 result.2 }
 {
-    close_in_order(rt, alloc, yard, port, &mut Unheard)
+    close_and_tell(rt, alloc, yard, port, &mut Unheard)
 }
 
 /// Closes the ports of a list in order, and keeps of each what shows it.
@@ -230,14 +261,11 @@ pub(crate) fn close_all<R: Wait>(
 {
     let mut closings = Closings::none();
     for port in ports {
-        let end = port.end();
+        let end = port.id();
         let (grave, spent, noticed) = close_port(rt, alloc, yard, port);
-        closings.push(Closing {
-            end,
-            queue: Some(grave.into_shut()),
-            line: spent.into_left(),
-            noticed,
-        });
+        let mut closed = ClosedPort::new(end, spent, noticed);
+        closed.queue = Some(grave.into_shut());
+        closings.push(closed);
     }
     closings
 }

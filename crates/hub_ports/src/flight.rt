@@ -21,7 +21,7 @@ use std::alloc::Global;
 use std::sync::Wait;
 
 /// The name under which a port waits in flight: its number, with epoch 0 and line 0.
-pub(crate) fn place(end: EndId) -> Key
+pub(crate) fn flight_key(end: EndId) -> Key
     ensures { result ≡ place_of end }
 {
     Key {
@@ -86,7 +86,7 @@ pub(crate) fn call_back<L: Lends<Kept<Port>>, R: Wait>(
 {
     for index in ports.len()..numbers.len() {
         let number = numbers[index];
-        match take_in(rt, flight, place(number)) {
+        match take_in(rt, flight, flight_key(number)) {
             Some(port) => ports.push_reserved(port),
             None => missing.push_reserved(number),
         }

@@ -62,7 +62,7 @@ impl Hub {
         ensures { IfOk result (λ arrival.
             IsSplit envelope.now.ports (ends_of arrival.found.items) arrival.missing.items) }
     {
-        let mut flight = self.flight.lock();
+        let mut flight = self.flight.as_locked();
         arrive_from(rt, &mut flight, self.alloc, envelope.ports.as_slice())
     }
 
@@ -85,7 +85,7 @@ impl Hub {
             return Ok(());
         };
         let hub = Hub {
-            flight: Depot::holding(kept),
+            flight: Depot::from_kept(kept),
             yard,
             alloc,
             grave: Mutex::new(Some(grave)),

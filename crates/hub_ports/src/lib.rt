@@ -19,7 +19,7 @@ mod port;
 mod sending;
 
 pub use arriving::{Arrival, Arrived, arrive_from};
-pub use closing::{Closing, ClosingStep, Closings, Noticed, Spent, close_in_order};
+pub use closing::{ClosedPort, ClosingStep, Closings, Noticed, Spent, close_and_tell};
 pub use error::{ChannelError, PortError, SendRefusal};
 pub use flight::close_flight;
 pub use hub::{Hub, channel};

@@ -1,6 +1,6 @@
 use crate::closing::{Closings, Noticed, Spent, close_port};
 use crate::error::{PortError, SendRefusal};
-use crate::flight::place;
+use crate::flight::flight_key;
 use crate::hub::Hub;
 use crate::parcel::Parcel;
 use crate::sending::{send, send_parcel};
@@ -49,7 +49,7 @@ impl Named for Port {
     fn name(&self) -> Key
         ensures { result ≡ place_of (end_of self.now) }
     {
-        place(self.end())
+        flight_key(self.id())
     }
 }
 
@@ -74,10 +74,10 @@ impl Port {
     }
 
     /// The number of its end.
-    pub fn end(&self) -> EndId
+    pub fn id(&self) -> EndId
         ensures { result ≡ end_of self.now }
     {
-        self.taker.end()
+        self.taker.id()
     }
 
     /// How often the port was adopted.

@@ -7,7 +7,7 @@ ghost use Rattle.hub_ports.specs.Flying.{IsFlown};
 ghost use Rattle.hub_ports.specs.Refusing.{LeavesIn, answer_with, carried_body, error_with};
 ghost use Rattle.hub_ports.specs.Seats.{ends_of, is_numbered};
 ghost use Rattle.hub_ports.specs.Sending.{IsSent, IsDoomed, IsTooMany};
-ghost use Rattle.hub_ports.specs.declared.closing.Closing.{Closing};
+ghost use Rattle.hub_ports.specs.declared.closing.ClosedPort.{ClosedPort};
 
 use crate::closing::{Closings, close_all};
 use crate::error::{PortError, SendRefusal};
@@ -27,7 +27,7 @@ use std::sync::Wait;
 fn holds(ports: &[Port], end: EndId) -> bool
     ensures { result ≡ list_any (is_numbered end) ports.now }
 {
-    ports.iter().any(|port| port.end() == end)
+    ports.iter().any(|port| port.id() == end)
 }
 
 /// The numbers of the ports, in order.
@@ -36,7 +36,7 @@ fn numbers_of(alloc: Global, ports: &[Port]) -> Result<Vec<EndId>, OutOfMemory>
 {
     let mut numbers = Vec::with_capacity(alloc, ports.len())?;
     for port in ports {
-        numbers.push_reserved(port.end());
+        numbers.push_reserved(port.id());
     }
     Ok(numbers)
 }
@@ -64,7 +64,7 @@ fn send_alone<R: Wait>(
 ) -> Result<Posted, SendRefusal>
     requires body { IsSome parcel.old.body }
     requires none { parcel.old.ports.items ≡ [] }
-    ensures sent { (closings : List Closing) → IsSent line.old line.new agent
+    ensures sent { (closings : List ClosedPort) → IsSent line.old line.new agent
         (carried_body parcel.old) [] (answer_with result parcel.new closings) }
     ensures left { LeavesIn result parcel.old parcel.new }
     ensures ports { parcel.new.ports ≡ parcel.old.ports }
@@ -94,12 +94,12 @@ fn post_with_ports<L: Lends<Kept<Port>>, R: Wait>(
 ) -> Result<Posted, SendRefusal>
     requires body { IsSome parcel.old.body }
     requires few { length parcel.old.ports.items ≤ MAX_PORTS }
-    ensures sent { (closings : List Closing) → IsSent line.old line.new agent
+    ensures sent { (closings : List ClosedPort) → IsSent line.old line.new agent
         (carried_body parcel.old) parcel.old.ports.items (answer_with result parcel.new closings) }
     ensures left { LeavesIn result parcel.old parcel.new }
     ensures many { IsErrOf result SendRefusal.TooManyPorts → ⊥ }
     ensures doomed { IsErrOf result SendRefusal.Doomed → ⊥ }
-    ensures flown { IfSome (L.shown flight.old) (λ kept. (closings : List Closing)
+    ensures flown { IfSome (L.shown flight.old) (λ kept. (closings : List ClosedPort)
         → IsFlown kept parcel.old.ports.items (L.shown flight.new)
         (answer_with result parcel.new closings)) }
 {
@@ -200,7 +200,7 @@ pub fn send_parcel<R: Wait>(
     if parcel.ports.is_empty() {
         return send_alone(line, rt, hub, agent, parcel);
     }
-    let mut flight = hub.flight.lock();
+    let mut flight = hub.flight.as_locked();
     send_with_ports(rt, hub, &mut flight, line, agent, parcel, closings)
 }
 

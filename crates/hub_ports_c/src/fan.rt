@@ -182,5 +182,5 @@ pub extern "C" fn varukoni_fan_drain(
 pub extern "C" fn varukoni_fan_drop(alloc: Global, handle: &mut Handle)
     ensures closed { (handle.new.slot.held ≡ None) × (handle.new.is_open ≡ false) }
 {
-    *handle = Handle::closed(alloc);
+    *handle = Handle::new_closed(alloc);
 }

@@ -131,5 +131,5 @@ pub extern "C" fn varukoni_group_leave(
 pub extern "C" fn varukoni_group_drop(alloc: Global, handle: &mut Handle)
     ensures closed { (handle.new.slot.held ≡ None) × (handle.new.is_open ≡ false) }
 {
-    *handle = Handle::closed(alloc);
+    *handle = Handle::new_closed(alloc);
 }

@@ -27,7 +27,7 @@ impl Drop for Handle {
 impl Handle {
     ghost use Rattle.std.specs.Prelude.{◌≡◌, Some, None, true};
 
-    pub(crate) fn closed(alloc: Global) -> Handle
+    pub(crate) fn new_closed(alloc: Global) -> Handle
         ensures { result.slot.held ≡ None }
     {
         Handle {
@@ -50,7 +50,7 @@ impl Handle {
         requires { self.old.is_open ≡ true }
         ensures { (Some result.value ≡ self.old.slot.held) × (self.new.slot.held ≡ None) }
     {
-        mem::replace(self, Handle::closed(alloc)).into_resource()
+        mem::replace(self, Handle::new_closed(alloc)).into_resource()
     }
 
     /// What an open handle holds.

@@ -14,4 +14,4 @@ mod resource_group;
 mod slot;
 mod status;
 
-pub use resource::sent_resource;
+pub use resource::assert_resource_send;

@@ -223,5 +223,5 @@ pub extern "C" fn varukoni_port_name(alloc: Global, handle: &mut Handle, name: &
 pub extern "C" fn varukoni_port_drop(alloc: Global, handle: &mut Handle)
     ensures closed { (handle.new.slot.held ≡ None) × (handle.new.is_open ≡ false) }
 {
-    *handle = Handle::closed(alloc);
+    *handle = Handle::new_closed(alloc);
 }

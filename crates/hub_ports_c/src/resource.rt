@@ -204,13 +204,13 @@ impl Resource {
 }
 
 /// What a handle holds, in its box, where that may be sent to another thread.
-pub fn sent_resource(resource: Box<Resource>) -> Box<Resource>
+pub fn assert_resource_send(resource: Box<Resource>) -> Box<Resource>
     ensures { result ≡ resource }
 {
-    sent(resource)
+    assert_send(resource)
 }
 
-fn sent<T: Send>(value: T) -> T
+fn assert_send<T: Send>(value: T) -> T
     ensures { result ≡ value }
 {
     value

@@ -29,7 +29,7 @@ pub enum Meeting {
 
 /// Lends the pass of a line to the taker's for one look at the queue: what was taken of the line is
 /// a prefix of what it has put. It says how many were put and taken. Both passes are as they were.
-fn compare<R: Wait>(
+fn count_put_and_taken<R: Wait>(
     rt: &R,
     queue: &mut TakerQueue,
     right: &mut LineRight,
@@ -59,7 +59,7 @@ fn meet_at<R: Wait>(rt: &R, stand: &mut Stand, queue: &mut TakerQueue) -> Meetin
     let line = stand.name.line;
     match stand.entry.take().unwrap().enter() {
         Entered::In(mut inside) => {
-            let (put, got) = compare(rt, queue, inside.right_mut(), line);
+            let (put, got) = count_put_and_taken(rt, queue, inside.right_mut(), line);
             let (entry, _) = inside.leave();
             stand.entry = Some(entry);
             Meeting::Met { put, got }

@@ -69,7 +69,7 @@ impl Poster {
         ensures posted { IsPosted self.old self.new draft result }
         ensures rung { HasRung self.old self.new result }
     {
-        let (mut lender, mut heard) = (yard.lock(), Paused(pause));
+        let (mut lender, mut heard) = (yard.as_locked(), Paused(pause));
         let Draft {
             body,
             ports,
@@ -110,7 +110,7 @@ impl Poster {
         ensures rung { HasRung self.old self.new
             (answer_back result (lent_draft head body.old ports.old)) }
     {
-        let (mut lender, mut heard) = (yard.lock(), Paused(&NoPause));
+        let (mut lender, mut heard) = (yard.as_locked(), Paused(&NoPause));
         self.post_on(rt, &mut lender, head, body, ports, &mut heard)
     }
 

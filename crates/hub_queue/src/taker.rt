@@ -157,7 +157,7 @@ impl Taker {
     }
 
     /// The end that it takes from.
-    pub fn end(&self) -> EndId
+    pub fn id(&self) -> EndId
         ensures { result.0 ≡ self.now.end }
     {
         self.end
@@ -191,7 +191,7 @@ impl Taker {
     ) -> Result<Taker, (AdoptError, Taker)>
         ensures { IsAdopted self result }
     {
-        let mut lender = yard.lock();
+        let mut lender = yard.as_locked();
         self.adopt_on(rt, &mut lender, bell)
     }
 

@@ -206,5 +206,5 @@ fn are_numbered(swept: &Swept, text: &str, count: usize) -> bool {
         }
         next = next.wrapping_add(1);
     }
-    swept.end() == EndId(0) && swept.envelopes().len() == count
+    swept.id() == EndId(0) && swept.envelopes().len() == count
 }

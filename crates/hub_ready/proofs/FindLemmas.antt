@@ -1,5 +1,5 @@
 -- What was read.
-use Rattle.std.proofs.Common.{◌≡◌, ℕ, zero, suc, ◌==◌, false, if◌then◌else◌, rules, slice_index, subst, append_assoc, ◌+◌, ◌*◌, ◌/◌, ◌%◌, ◌<◌, List, [], ◌∷◌, ◌++◌, inl, inr, refl, sym, ap, ◌∙◌, arith}
+use Rattle.std.proofs.Common.{◌≡◌, ◌⊎◌, ℕ, zero, suc, ◌==◌, Bool, true, false, if◌then◌else◌, rules, slice_index, subst, append_assoc, ◌+◌, ◌*◌, ◌/◌, ◌%◌, ◌<◌, List, [], ◌∷◌, ◌++◌, inl, inr, refl, sym, ap, ◌∙◌, arith}
 use Rattle.std.proofs.lemmas.Bool.{cases_lt}
 use Rattle.hub_bell.specs.declared.board.BoardStep.{BoardStep}
 use Rattle.hub_envelope.specs.declared.ids.EndId.{EndId}
@@ -7,7 +7,7 @@ use Rattle.hub_bell.specs.declared.board.BoardStep.TheVariants.{Looked, Took}
 use Rattle.hub_bell.specs.Listening.{taking}
 use Rattle.hub_bell.specs.Ready.{names_word, bits_word}
 use Rattle.hub_bell.specs.Seats.{BoardSeat, Done}
-use Rattle.hub_ready.specs.Finding.{HasRead, WasClear, HasStepped, KeepsMarks, MarksBit, FindsBetween, FindsAll, MarksFound, MarksOfWord, MarksOfBit, MarksOfNumber}
+use Rattle.hub_ready.specs.Finding.{HasRead, WasClear, HasStepped, KeepsMarks, HasTaken, IsTaking, MarksTaken, WasEmptied, EmptiesBetween, EmptiesNamed, MarksBit, FindsBetween, FindsAll, MarksFound, MarksOfWord, MarksOfBit, MarksOfNumber}
 use Rattle.hub_ready.proofs.BitLemmas.{bit-cases}
 use Rattle.std.specs.Int.{bit_at}
 
@@ -129,4 +129,131 @@ marks-number bit row listed more a b c small same first second key marked =
     elim (second key marked) [
       | inl before ↦ first key before
       | inr leads ↦ inr (let end : EndId = record { 0 = row * 65536 + bit } in (end, sym (ap (λ l. slice_index l end.0) same) ∙ leads, omega (arith, small)))
+    ]
+
+-- what steps took out, and those behind them, the ones or the others did
+taken-cases : (word value : ℕ) (front back : List BoardStep) → HasTaken word value (front ++ back) → HasTaken word value front ⊎ HasTaken word value back
+taken-cases word value [] back taken = inr taken
+taken-cases word value (step ∷ front) back taken =
+    elim taken [
+      | inl here ↦ inl (inl here)
+      | inr there ↦
+          elim (taken-cases word value front back there) [
+            | inl before ↦ inl (inr before)
+            | inr behind ↦ inr behind
+          ]
+    ]
+
+taken-left : (word value : ℕ) (front back : List BoardStep) → HasTaken word value front → HasTaken word value (front ++ back)
+taken-left word value [] back taken = absurd taken
+taken-left word value (step ∷ front) back taken =
+    elim taken [
+      | inl here ↦ inl here
+      | inr there ↦ inr (taken-left word value front back there)
+    ]
+
+taken-right : (word value : ℕ) (front back : List BoardStep) → HasTaken word value back → HasTaken word value (front ++ back)
+taken-right word value [] back taken = taken
+taken-right word value (step ∷ front) back taken = inr (taken-right word value front back taken)
+
+-- a word that was emptied by steps was by all of them
+pub emptied-left : (word : ℕ) (front back : List BoardStep) → WasEmptied word front → WasEmptied word (front ++ back)
+emptied-left word front back emptied =
+    elim emptied [
+      | inl none ↦ inl (read-left word 0 front back none)
+      | inr taken ↦ inr (taken.0, taken-left word taken.0 front back taken.1)
+    ]
+
+pub emptied-right : (word : ℕ) (front back : List BoardStep) → WasEmptied word back → WasEmptied word (front ++ back)
+emptied-right word front back emptied =
+    elim emptied [
+      | inl none ↦ inl (read-right word 0 front back none)
+      | inr taken ↦ inr (taken.0, taken-right word taken.0 front back taken.1)
+    ]
+
+-- the words of one list of steps, and those behind them
+pub empties-joined : (low mid high : ℕ) (front back : List BoardStep) → EmptiesBetween low mid front → EmptiesBetween mid high back → EmptiesBetween low high (front ++ back)
+empties-joined low mid high front back first second word from below =
+    elim (cases_lt word mid) [
+      | inl before ↦ emptied-left (16 + word) front back (first word from before)
+      | inr behind ↦ emptied-right (16 + word) front back (second word behind below)
+    ]
+
+-- the words that names name were emptied after them, by steps and by those behind them
+pub named-both : (front back : List BoardStep) → EmptiesNamed front → EmptiesNamed back → EmptiesNamed (front ++ back)
+named-both [] back first second = second
+named-both (step ∷ front) back first second =
+    (λ end names is set. emptied-left (bits_word end) front back (first.0 end names is set), named-both front back first.1 second)
+
+-- what was taken out is marked, by steps and by those behind them
+pub taken-both : (listed more marks new : List ℕ) (front back : List BoardStep) → more ≡ listed → KeepsMarks marks new → MarksTaken listed marks front → MarksTaken more new back → MarksTaken more new (front ++ back)
+taken-both listed more marks new front back same keeps first second end key bits taken set leads has =
+    elim (taken-cases (bits_word end) bits front back taken) [
+      | inl before ↦ keeps.1 key (first end key bits before set (sym (ap (λ l. slice_index l end.0) same) ∙ leads) (omega (arith, has, keeps.0)))
+      | inr behind ↦ second end key bits behind set leads has
+    ]
+
+-- a take takes out of its word what it says
+taken-of : (at value word found taken : ℕ) (none : Bool) → HasTaken at value (Looked word found ∷ (if none then [] else Took word taken ∷ [])) → IsTaking at value (Took word taken)
+taken-of at value word found taken true has =
+    elim has [
+      | inl looked ↦ absurd looked
+      | inr rest ↦ absurd rest
+    ]
+taken-of at value word found taken false has =
+    elim has [
+      | inl looked ↦ absurd looked
+      | inr rest ↦
+          elim rest [
+            | inl is ↦ is
+            | inr past ↦ absurd past
+          ]
+    ]
+
+-- a take leaves nothing in its word
+emptied-taken : (word found taken : ℕ) → WasEmptied word (taking word found taken)
+emptied-taken word zero taken = inl (inl (refl, refl))
+emptied-taken word (suc found) taken =
+    let off : (suc found == 0) ≡ false = search rules in
+    inr (taken, subst (λ b. HasTaken word taken (Looked word (suc found) ∷ (if b then [] else Took word taken ∷ []))) (sym off) (inr (inl (refl, refl))))
+
+-- a take out of a word of bits takes no names
+no-names : (word found taken : ℕ) (none : Bool) → EmptiesNamed (Looked (16 + word) found ∷ (if none then [] else Took (16 + word) taken ∷ []))
+no-names word found taken true = (λ end names is set. absurd is, tt)
+no-names word found taken false = (λ end names is set. absurd is, (λ end names is set. absurd (omega (arith, is.0)), tt))
+
+-- the bits of a word that were taken out are marked
+pub word-marked : (word bits found : ℕ) (listed marks : List ℕ) → word < 1024 → ((bit : ℕ) → bit < 64 → bit_at bits bit ≡ 1 → MarksBit (word * 64 + bit) listed marks) → MarksTaken listed marks (taking (16 + word) found bits)
+word-marked word bits found listed marks few marked end key value has set leads bit =
+    let is = taken-of (bits_word end) value (16 + word) found bits (found == 0) has in
+    marked (end.0 % 64) (omega arith) (ap (λ b. bit_at b (end.0 % 64)) is.1 ∙ set) end key (omega (arith, is.0, few)) leads bit
+
+-- a word whose bits were taken out was emptied, and no names were taken out
+pub word-emptied : (word bits found : ℕ) → EmptiesBetween word (word + 1) (taking (16 + word) found bits) × EmptiesNamed (taking (16 + word) found bits)
+word-emptied word bits found = (
+  λ other from below.
+      let is : word ≡ other = omega (arith, from, below) in
+      subst (λ w. WasEmptied (16 + w) (taking (16 + word) found bits)) is (emptied-taken (16 + word) found bits),
+  no-names word found bits (found == 0),
+)
+
+-- names are taken out, and then the bits of the words that they name
+pub names-emptied : (names found : ℕ) (none : Bool) (steps : List BoardStep) → ((group : ℕ) → group < 64 → bit_at names group ≡ 1 → EmptiesBetween (16 * group) (16 * group + 16) steps) → EmptiesNamed steps
+    → EmptiesNamed ((Looked names_word found ∷ (if none then [] else Took names_word names ∷ [])) ++ steps)
+names-emptied names found true steps each rest = (λ end value is set. absurd is, rest)
+names-emptied names found false steps each rest = (
+  λ end value is set. absurd is,
+  (
+    λ end value is set.
+        each (end.0 / 1024 % 64) (omega arith) (ap (λ n. bit_at n (end.0 / 1024 % 64)) is.1 ∙ set) ((end.0 / 64) % 1024) (omega arith) (omega arith),
+    rest,
+  ),
+)
+
+-- names that are taken out are no bits
+pub names-marked : (names found : ℕ) (listed marks : List ℕ) (steps : List BoardStep) → MarksTaken listed marks steps → MarksTaken listed marks (taking names_word found names ++ steps)
+names-marked names found listed marks steps marked end key bits taken set leads has =
+    elim (taken-cases (bits_word end) bits (taking names_word found names) steps taken) [
+      | inl before ↦ absurd (let is = taken-of (bits_word end) bits names_word found names (found == 0) before in omega (arith, is.0))
+      | inr behind ↦ marked end key bits behind set leads has
     ]

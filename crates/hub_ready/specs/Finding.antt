@@ -1,5 +1,5 @@
 -- Which ends a loop finds at its listener.
-use Rattle.std.specs.Prelude.{◌≡◌, ◌⊎◌, ℕ, ◌+◌, ◌/◌, ◌%◌, ◌<◌, ◌≤◌, List, [], ◌∷◌, ◌++◌, length, slice_index, Option, Some, None}
+use Rattle.std.specs.Prelude.{◌≡◌, ◌⊎◌, ℕ, ◌+◌, ◌/◌, ◌%◌, ◌<◌, ◌≤◌, List, [], ◌∷◌, ◌++◌, length, slice_index, Option, Some, None, ⊤}
 use Rattle.std.specs.Int.{bit_at}
 use Rattle.hub_bell.specs.declared.board.BoardStep.{BoardStep}
 use Rattle.hub_bell.specs.declared.board.BoardStep.TheVariants.{Looked, Set, Took, Stored}
@@ -87,3 +87,32 @@ MarksOfBit bit listed old new = (key : ℕ) → mark_of new key ≡ 1 → (mark_
 -- the same of one number
 abbrev pub MarksOfNumber : ℕ → List ℕ → List ℕ → List ℕ → Type 0
 MarksOfNumber number listed old new = (key : ℕ) → mark_of new key ≡ 1 → (mark_of old key ≡ 1) ⊎ (slice_index listed number ≡ key + 1)
+
+-- the step took this value out of this word
+abbrev pub IsTaking : ℕ → ℕ → BoardStep → Type 0
+IsTaking word value (Took at found) = (at ≡ word) × (found ≡ value)
+IsTaking word value (Looked at found) = ⊥
+IsTaking word value (Set at bits) = ⊥
+IsTaking word value (Stored at stored) = ⊥
+
+-- one of these steps did
+abbrev pub HasTaken : ℕ → ℕ → List BoardStep → Type 0
+HasTaken word value [] = ⊥
+HasTaken word value (step ∷ steps) = IsTaking word value step ⊎ HasTaken word value steps
+
+-- each key to which the number of an end leads whose ready bit was taken out is marked
+abbrev pub MarksTaken : List ℕ → List ℕ → List BoardStep → Type 0
+MarksTaken listed marks steps = (end : EndId) (key bits : ℕ) → HasTaken (bits_word end) bits steps → bit_at bits (end.0 % 64) ≡ 1 → LeadsTo listed end key → HasBit marks key → mark_of marks key ≡ 1
+
+-- nothing was left in the word: 0 was found there, or what was found was taken out
+abbrev pub WasEmptied : ℕ → List BoardStep → Type 0
+WasEmptied word steps = HasRead word 0 steps ⊎ ((value : ℕ) × HasTaken word value steps)
+
+-- the same of the words of bits from the one up to the other
+abbrev pub EmptiesBetween : ℕ → ℕ → List BoardStep → Type 0
+EmptiesBetween low high steps = (word : ℕ) → low ≤ word → word < high → WasEmptied (16 + word) steps
+
+-- wherever a step took names out, nothing was left after it in the words that they name
+abbrev pub EmptiesNamed : List BoardStep → Type 0
+EmptiesNamed [] = ⊤
+EmptiesNamed (step ∷ steps) = ((end : EndId) (names : ℕ) → IsTaking names_word names step → bit_at names ((end.0 / 1024) % 64) ≡ 1 → WasEmptied (bits_word end) steps) × EmptiesNamed steps

@@ -17,6 +17,7 @@ ghost use Rattle.std.specs.Prelude.{
   List,
   length,
   slice_index,
+  slice_set,
   true,
   IfOk,
   OnOk,
@@ -25,6 +26,8 @@ ghost use Rattle.std.specs.Int.{bit_at};
 ghost use Rattle.hub_bell.specs.declared.board.BoardStep.{BoardStep};
 ghost use Rattle.hub_envelope.specs.declared.ids.EndId.{EndId as Number};
 ghost use Rattle.hub_ready.specs.Finding.{
+  EmptiesBetween,
+  EmptiesNamed,
   FindsAll,
   FindsBetween,
   GrowsMarks,
@@ -37,6 +40,7 @@ ghost use Rattle.hub_ready.specs.Finding.{
   MarksOfBit,
   MarksOfNumber,
   MarksOfWord,
+  MarksTaken,
   SameEntries,
   TakesNames,
 };
@@ -105,6 +109,8 @@ impl Ready {
             → slice_index self.new.listed.items number ≡ other + 1 }
         ensures leads { end.0 < length self.old.listed.items → key + 1 < 2 ^ 32
             → slice_index self.old.listed.items end.0 ≡ 0 → LeadsTo self.new.listed.items end key }
+        ensures only { (self.new.listed.items ≡ self.old.listed.items)
+            ⊎ (self.new.listed.items ≡ slice_set self.old.listed.items end.0 (key + 1)) }
     {
         self.marks.set(key);
         let number = end.0 as usize;
@@ -121,6 +127,8 @@ impl Ready {
         ensures listed { (number other : ℕ) → other ≢ key
             → slice_index self.old.listed.items number ≡ other + 1
             → slice_index self.new.listed.items number ≡ other + 1 }
+        ensures only { (self.new.listed.items ≡ self.old.listed.items)
+            ⊎ (self.new.listed.items ≡ slice_set self.old.listed.items end.0 0) }
     {
         self.marks.clear(key);
         if self.leads_to(end, key) {
@@ -159,6 +167,10 @@ impl Ready {
             × FindsAll self.new.listed.items self.new.marks steps }
         ensures only { (steps : List BoardStep) × HasStepped listener.old listener.new steps
             × MarksFound self.old.listed.items self.old.marks self.new.marks steps }
+        ensures marked { (steps : List BoardStep) × HasStepped listener.old listener.new steps
+            × MarksTaken self.new.listed.items self.new.marks steps }
+        ensures emptied { (steps : List BoardStep) × HasStepped listener.old listener.new steps
+            × EmptiesNamed steps }
     {
         let names = listener.take_names();
         let mut left = names;
@@ -180,6 +192,10 @@ impl Ready {
             steps }
         ensures only { (steps : List BoardStep) × HasStepped listener.old listener.new steps
             × MarksFound self.old.listed.items self.old.marks self.new.marks steps }
+        ensures marked { (steps : List BoardStep) × HasStepped listener.old listener.new steps
+            × MarksTaken self.new.listed.items self.new.marks steps }
+        ensures emptied { (steps : List BoardStep) × HasStepped listener.old listener.new steps
+            × EmptiesBetween (16 * group) (16 * group + 16) steps × EmptiesNamed steps }
     {
         for word in GROUP * group..GROUP * group + GROUP {
             self.gather_word(listener, word);
@@ -195,6 +211,10 @@ impl Ready {
             × FindsBetween word (word + 1) self.new.listed.items self.new.marks steps }
         ensures only { (steps : List BoardStep) × HasStepped listener.old listener.new steps
             × MarksFound self.old.listed.items self.old.marks self.new.marks steps }
+        ensures marked { (steps : List BoardStep) × HasStepped listener.old listener.new steps
+            × MarksTaken self.new.listed.items self.new.marks steps }
+        ensures emptied { (steps : List BoardStep) × HasStepped listener.old listener.new steps
+            × EmptiesBetween word (word + 1) steps × EmptiesNamed steps }
     {
         let bits = listener.take_bits(word);
         self.mark_bits(word, bits);

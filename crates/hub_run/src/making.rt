@@ -264,7 +264,7 @@ impl<'s, C: Checkpoint> Made<'s, C> {
         let mut agents = Vec::new(alloc);
         for seat in seats {
             let kind = declared[agents.len()].kind;
-            let agent = Agent::open(alloc, kind, shared, roster.lock(), checkpoint, seat)?;
+            let agent = Agent::open(alloc, kind, shared, roster.as_locked(), checkpoint, seat)?;
             push(&mut agents, agent)?;
         }
         Ok(Made {

@@ -53,7 +53,7 @@ fn a_ring_sets_the_bit_of_its_end(rt: HostRuntime) -> Result<(), Fail> {
 #[test]
 fn rings_of_two_bells_are_found_together(rt: HostRuntime) {
     let (mut listener, mut bell) = Listener::open(rt.alloc()).expect(&rt, "memory");
-    let mut other = listener.bell().expect(&rt, "memory");
+    let mut other = listener.new_bell().expect(&rt, "memory");
     bell.ring(EndId(7));
     other.ring(EndId(5));
     bell.clone().expect(&rt, "memory").ring(EndId(5_450));

@@ -17,7 +17,7 @@ use Rattle.hub_script.specs.Answers.{IsScriptAnswer, LeavesKnown}
 use Rattle.hub_script.specs.Contents.{Contents}
 use Rattle.hub_script.specs.Context.{after_form}
 use Rattle.hub_script.specs.Fields.{ScriptRead}
-use Rattle.hub_script.specs.Form.{form_of, form_with, object_form, object_only, text_form}
+use Rattle.hub_script.specs.Form.{form_of, form_with, object_form, object_only, form_in_text}
 use Rattle.hub_script.specs.Shapes.{keyword_of, form_word}
 use Rattle.hub_script.specs.Known.{Known, nothing}
 use Rattle.hub_script.specs.Refusals.{HasNoForm, HasNoKeyword, IsAccepted, IsExplained, IsNoObject, IsSyntaxError, Means}
@@ -33,7 +33,7 @@ use Rattle.hub_script.proofs.Standing.{Stands, at_first}
 
 -- the text line is no object, or it is one
 by_object : (P : ScriptRead Form → Type 0) (bytes : List ℕ) → (IsNoObject bytes → P (Err Syntax)) → ((d : Data) → IsObject bytes d → P (object_form d)) → P (form_of bytes)
-unfolding form_of text_form
+unfolding form_of form_in_text
 by_object P bytes none good = by (is_utf8 bytes) refl (read bytes) refl
   where
     other_value : (d : Data) → read bytes ≡ Some d → ((ms : Members) → d ≡ object ms → ⊥) → IsNoObject bytes

@@ -4,7 +4,7 @@ use Rattle.std.specs.Prelude.{IfErr, OnOk}
 use Rattle.std.specs.Str.{is_utf8, IsUtf8}
 use Rattle.std.proofs.lemmas.Str.{is_utf8-from_IsUtf8, IsUtf8-from_is_utf8}
 use Rattle.hub_script.specs.declared.error.ScriptError.TheVariants.{Syntax}
-use Rattle.hub_script.specs.Form.{form_of, text_form}
+use Rattle.hub_script.specs.Form.{form_of, form_in_text}
 
 utf8_at : (bytes : List ℕ) (b : Bool) → is_utf8 bytes ≡ b → (IsUtf8 bytes → ⊥) → b ≡ false
 utf8_at bytes true e h = absurd (h (IsUtf8-from_is_utf8 bytes e))
@@ -12,11 +12,11 @@ utf8_at bytes false e h = refl
 
 pub not_utf8 : (bytes : List ℕ) → (IsUtf8 bytes → ⊥) → form_of bytes ≡ Err Syntax
 unfolding form_of
-not_utf8 bytes h = ap (λ b. cond b (text_form bytes) (Err Syntax)) (utf8_at bytes (is_utf8 bytes) refl h)
+not_utf8 bytes h = ap (λ b. cond b (form_in_text bytes) (Err Syntax)) (utf8_at bytes (is_utf8 bytes) refl h)
 
-pub form_of_text : (bytes : List ℕ) → IsUtf8 bytes → form_of bytes ≡ text_form bytes
+pub form_of_text : (bytes : List ℕ) → IsUtf8 bytes → form_of bytes ≡ form_in_text bytes
 unfolding form_of
-form_of_text bytes valid = ap (λ b. cond b (text_form bytes) (Err Syntax)) (is_utf8-from_IsUtf8 bytes valid)
+form_of_text bytes valid = ap (λ b. cond b (form_in_text bytes) (Err Syntax)) (is_utf8-from_IsUtf8 bytes valid)
 
 -- what holds of each answer
 pub on_value : {T E : Type 0} (r : Result T E) (P : Type 0) → P → OnOk r P

@@ -240,8 +240,8 @@ casting k a n answer = do
   Ok (acting k a (action.Cast (declared_end k.script member) body))
 
 -- what the agent starts: its own queue, or a port
-abbrev pub start_of : Known → AgentId → List ℕ → ScriptRead EndId
-start_of k a n = if bytes_eq n (codes "queue") then Ok (queue_of a) else (named_end k n >>= λ port. Ok (declared_end k.script port))
+abbrev pub started_end : Known → AgentId → List ℕ → ScriptRead EndId
+started_end k a n = if bytes_eq n (codes "queue") then Ok (queue_of a) else (named_end k n >>= λ port. Ok (declared_end k.script port))
 
 -- what is known after the action of the agent. What it closes it doesn't hold any more, and what it receives it
 -- holds, whoever held it before
@@ -249,7 +249,7 @@ abbrev pub adding_action : Known → AgentId → ActionForm → ScriptRead Known
 adding_action k a (Post n answer names) = posting k a n answer names
 adding_action k a (Send to answer names) = sending k a to answer names
 adding_action k a (Cast n answer) = casting k a n answer
-adding_action k a (Start n) = start_of k a n >>= λ end. Ok (acting k a (action.Start end))
+adding_action k a (Start n) = started_end k a n >>= λ end. Ok (acting k a (action.Start end))
 adding_action k a Loaded = Ok (acting k a (action.Loaded (queue_of a)))
 adding_action k a (Close n) = named_end k n >>= λ end. Ok (with_holds (acting k a (action.Close (declared_end k.script end))) (giving (holding a end)))
 adding_action k a (Wait messages) = Ok (acting k a (action.Wait messages))

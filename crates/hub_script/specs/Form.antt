@@ -44,9 +44,9 @@ abbrev pub object_in : List ℕ → ScriptRead Data
 object_in text = some_or Syntax (read text) >>= object_only
 
 -- the form of the object that a text is
-unfoldable pub text_form : List ℕ → ScriptRead Form
-text_form text = object_in text >>= object_form
+unfoldable pub form_in_text : List ℕ → ScriptRead Form
+form_in_text text = object_in text >>= object_form
 
 -- what the bytes of a text line say by themselves
 unfoldable pub form_of : List ℕ → ScriptRead Form
-form_of bytes = if is_utf8 bytes then text_form bytes else Err Syntax
+form_of bytes = if is_utf8 bytes then form_in_text bytes else Err Syntax

@@ -5,7 +5,7 @@ ghost use Rattle.hub_envelope.specs.declared.limits.TheConstants.{MAX_AGENTS, MA
 ghost use Rattle.hub_script.specs.Contents.{declared_agents};
 ghost use Rattle.hub_script.specs.Context.{adding, adding_action, adding_agent, adding_channel};
 ghost use Rattle.hub_script.specs.Context.{adding_member, after_form, casting, has_room};
-ghost use Rattle.hub_script.specs.Context.{is_within, posting, sending, start_of, value_or};
+ghost use Rattle.hub_script.specs.Context.{is_within, posting, sending, started_end, value_or};
 ghost use Rattle.hub_script.specs.Fields.{IsRead};
 ghost use Rattle.hub_script.specs.Uses.{transferred};
 
@@ -38,7 +38,7 @@ impl ScriptReader {
     pub(crate) fn add_form(&mut self, alloc: Global, form: Form) -> Result<(), ScriptError>
         ensures { ReadsTo self.new result (after_form (known self.old) form) }
     {
-        self.test(&form)?;
+        self.check_form(&form)?;
         self.add(alloc, form)
     }
 
@@ -144,7 +144,7 @@ impl ScriptReader {
             ActionForm::Hand { to } => {
                 let to = self.agent_of(to)?;
                 self.act(agent, ActionKind::Hand { to })?;
-                self.hand(agent)
+                self.mark_handed(agent)
             }
             ActionForm::Fetch { from } => {
                 let queue = queue_of(self.agent_of(from)?);
@@ -180,7 +180,7 @@ impl ScriptReader {
                 transfer,
             },
         )?;
-        self.give_all(agent, ports.as_slice());
+        self.release_all(agent, ports.as_slice());
         Ok(())
     }
 
@@ -209,7 +209,7 @@ impl ScriptReader {
                 transfer,
             },
         )?;
-        self.give_all(agent, ports.as_slice());
+        self.release_all(agent, ports.as_slice());
         Ok(())
     }
 
@@ -234,13 +234,13 @@ impl ScriptReader {
         ensures { ReadsTo self.new result
             (adding_action (known self.old) agent (ActionForm.Start name.now)) }
     {
-        let end = self.start_of(agent, name)?;
+        let end = self.started_end(agent, name)?;
         self.act(agent, ActionKind::Start { end })
     }
 
     /// What the agent starts: its own queue, or a port.
-    fn start_of(&self, agent: AgentId, name: &Text) -> Result<EndId, ScriptError>
-        ensures { IsRead result (start_of (known self.now) agent name.now) }
+    fn started_end(&self, agent: AgentId, name: &Text) -> Result<EndId, ScriptError>
+        ensures { IsRead result (started_end (known self.now) agent name.now) }
     {
         if name.as_str() == QUEUE {
             Ok(queue_of(agent))
@@ -257,7 +257,7 @@ impl ScriptReader {
         let named = self.named_end(name)?;
         let end = self.declared_end(named);
         self.act(agent, ActionKind::Close { end })?;
-        self.give(agent, named);
+        self.release(agent, named);
         Ok(())
     }
 
@@ -269,6 +269,6 @@ impl ScriptReader {
         let named = self.named_end(name)?;
         let port = self.declared_end(named);
         self.act(agent, ActionKind::Receive { port })?;
-        self.take(agent, named)
+        self.hold(agent, named)
     }
 }

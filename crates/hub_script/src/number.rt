@@ -14,9 +14,9 @@ pub(crate) fn number_of(text: &str) -> Option<Number>
 {
     let bytes = text.as_bytes();
     if has_minus(bytes) {
-        below_zero(&Numeral::scan(&bytes[1..]))
+        parse_negative(&Numeral::scan(&bytes[1..]))
     } else {
-        unsigned(&Numeral::scan(bytes))
+        parse_unsigned(&Numeral::scan(bytes))
     }
 }
 
@@ -27,7 +27,7 @@ fn has_minus(bytes: &[u8]) -> bool
     !bytes.is_empty() && bytes[0] == b'-'
 }
 
-fn unsigned(numeral: &Numeral<'_>) -> Option<Number>
+fn parse_unsigned(numeral: &Numeral<'_>) -> Option<Number>
     ensures { option_map number_view result ≡ number_from false numeral.now }
 {
     match numeral.to_u64() {
@@ -37,7 +37,7 @@ fn unsigned(numeral: &Numeral<'_>) -> Option<Number>
 }
 
 /// The number behind a minus.
-fn below_zero(numeral: &Numeral<'_>) -> Option<Number>
+fn parse_negative(numeral: &Numeral<'_>) -> Option<Number>
     ensures { option_map number_view result ≡ number_from true numeral.now }
 {
     match numeral.to_i64(true) {

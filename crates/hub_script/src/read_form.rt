@@ -5,7 +5,7 @@ ghost use Rattle.std.specs.List.{list_all};
 ghost use Rattle.std.specs.Str.{is_utf8};
 ghost use Rattle.hub_script.specs.Fields.{IsRead};
 ghost use Rattle.hub_script.specs.Form.{fields_in, form_by, form_of, form_with, has_only};
-ghost use Rattle.hub_script.specs.Form.{object_in, text_form};
+ghost use Rattle.hub_script.specs.Form.{object_in, form_in_text};
 ghost use Rattle.hub_script.specs.Shapes.{NUMBER, has_name};
 ghost use Rattle.hub_script.specs.JsonData.{IsWritable, data_in, json_in, json_names};
 ghost use Rattle.hub_text.specs.Reading.{IsReadAs, some_or};
@@ -41,13 +41,13 @@ pub(crate) fn read_form(
     let Ok(text) = str::from_utf8(bytes) else {
         return Err(ScriptError::Syntax);
     };
-    text_form(alloc, scratch, text)
+    form_in_text(alloc, scratch, text)
 }
 
 /// The form of the JSON object that the text is.
-#[tactic(auto, unfolding(crate::specs::Form::text_form))]
-fn text_form(alloc: Global, scratch: &mut Scratch, text: &str) -> Result<Form, ScriptError>
-    ensures { IsRead result (text_form text.now) }
+#[tactic(auto, unfolding(crate::specs::Form::form_in_text))]
+fn form_in_text(alloc: Global, scratch: &mut Scratch, text: &str) -> Result<Form, ScriptError>
+    ensures { IsRead result (form_in_text text.now) }
 {
     let line = object_in(alloc, scratch, text)?;
     let Some(keyword) = Keyword::of(&line) else {
@@ -141,39 +141,39 @@ fn form_by(alloc: Global, keyword: Keyword, line: &Value<'_>) -> Result<Form, Sc
         Keyword::Cast => cast_form(alloc, line),
         Keyword::Start => {
             let name = text_in(alloc, line, "start")?;
-            at_agent(line, ActionForm::Start { name })
+            action_form(line, ActionForm::Start { name })
         }
         Keyword::Loaded => {
             queue_in(line, "loaded")?;
-            at_agent(line, ActionForm::Loaded)
+            action_form(line, ActionForm::Loaded)
         }
         Keyword::Close => {
             let name = text_in(alloc, line, "close")?;
-            at_agent(line, ActionForm::Close { name })
+            action_form(line, ActionForm::Close { name })
         }
         Keyword::Wait => {
             let messages = number_in(line, "wait")?;
-            at_agent(line, ActionForm::Wait { messages })
+            action_form(line, ActionForm::Wait { messages })
         }
         Keyword::Receive => {
             let port = text_in(alloc, line, "receive")?;
-            at_agent(line, ActionForm::Receive { port })
+            action_form(line, ActionForm::Receive { port })
         }
         Keyword::Order => {
             let to = number_in(line, "order")?;
-            at_agent(line, ActionForm::Order { to })
+            action_form(line, ActionForm::Order { to })
         }
         Keyword::Event => {
             let event = event_in(line, "event")?;
-            at_agent(line, ActionForm::Event { event })
+            action_form(line, ActionForm::Event { event })
         }
         Keyword::Hand => {
             let to = number_in(line, "hand")?;
-            at_agent(line, ActionForm::Hand { to })
+            action_form(line, ActionForm::Hand { to })
         }
         Keyword::Fetch => {
             let from = number_in(line, "fetch")?;
-            at_agent(line, ActionForm::Fetch { from })
+            action_form(line, ActionForm::Fetch { from })
         }
     }
 }
@@ -201,7 +201,7 @@ fn are_fields_of(keyword: Keyword, fields: &[(&str, Value<'_>)]) -> bool
 }
 
 /// The action of the agent that the field `at` names.
-fn at_agent(line: &Value<'_>, action: ActionForm) -> Result<Form, ScriptError>
+fn action_form(line: &Value<'_>, action: ActionForm) -> Result<Form, ScriptError>
     ensures { IsRead result (fields_in ((codes "at", NUMBER) ∷ []) (λ at. Form.Action at action)
         (data_in line.now)) }
 {
@@ -241,7 +241,7 @@ fn post_form(alloc: Global, line: &Value<'_>) -> Result<Form, ScriptError>
     let port = text_in(alloc, line, "post")?;
     let body = body_in(alloc, line, "body")?;
     let transfer = list_in(alloc, line, "transfer")?;
-    at_agent(
+    action_form(
         line,
         ActionForm::Post {
             port,
@@ -258,7 +258,7 @@ fn send_form(alloc: Global, line: &Value<'_>) -> Result<Form, ScriptError>
     let to = number_in(line, "send")?;
     let body = body_in(alloc, line, "body")?;
     let transfer = list_in(alloc, line, "transfer")?;
-    at_agent(line, ActionForm::Send { to, body, transfer })
+    action_form(line, ActionForm::Send { to, body, transfer })
 }
 
 fn cast_form(alloc: Global, line: &Value<'_>) -> Result<Form, ScriptError>
@@ -267,5 +267,5 @@ fn cast_form(alloc: Global, line: &Value<'_>) -> Result<Form, ScriptError>
 {
     let member = text_in(alloc, line, "cast")?;
     let body = body_in(alloc, line, "body")?;
-    at_agent(line, ActionForm::Cast { member, body })
+    action_form(line, ActionForm::Cast { member, body })
 }

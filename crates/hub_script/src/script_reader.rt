@@ -326,7 +326,7 @@ impl ScriptReader {
     }
 
     /// The agent holds the name from now on.
-    pub(crate) fn take(&mut self, agent: AgentId, named: NamedEnd) -> Result<(), ScriptError>
+    pub(crate) fn hold(&mut self, agent: AgentId, named: NamedEnd) -> Result<(), ScriptError>
         ensures { ReadsTo self.new result
             (Ok (with_holds (known self.old) (taking_more (holding agent named)))) }
     {
@@ -335,25 +335,25 @@ impl ScriptReader {
     }
 
     /// The agent doesn't hold the name any more.
-    pub(crate) fn give(&mut self, agent: AgentId, named: NamedEnd)
+    pub(crate) fn release(&mut self, agent: AgentId, named: NamedEnd)
         ensures { known self.new ≡ with_holds (known self.old) (giving (holding agent named)) }
     {
         self.held.remove(&NameHolder::of(agent, named));
     }
 
     /// The agent doesn't hold the ports any more.
-    pub(crate) fn give_all(&mut self, agent: AgentId, ports: &[NamedEnd])
+    pub(crate) fn release_all(&mut self, agent: AgentId, ports: &[NamedEnd])
         ensures { known self.new ≡ with_holds (known self.old) (giving_all agent ports.now) }
     {
         let mut rest = ports;
         while let Some((first, others)) = rest.split_first() {
-            self.give(agent, *first);
+            self.release(agent, *first);
             rest = others;
         }
     }
 
     /// The agent has handed its queue on.
-    pub(crate) fn hand(&mut self, agent: AgentId) -> Result<(), ScriptError>
+    pub(crate) fn mark_handed(&mut self, agent: AgentId) -> Result<(), ScriptError>
         ensures { ReadsTo self.new result (Ok (with_handed (known self.old) agent.0)) }
     {
         self.handed.insert(u32::from(agent.0))?;
@@ -371,7 +371,7 @@ impl ScriptReader {
         ensures { ReadsTo self.new result (Ok (declaring (known self.old) name.now named agent)) }
     {
         self.set_name(alloc, name, named)?;
-        self.take(agent, named)
+        self.hold(agent, named)
     }
 
     fn set_name(&mut self, alloc: Global, name: &Text, named: NamedEnd) -> Result<(), ScriptError>

@@ -64,7 +64,7 @@ impl ScriptReader {
     ghost use Rattle.hub_script.specs.Reader.{known};
 
     /// Makes the tests of the form. What is left of its body or URL is tested when it is added.
-    pub(crate) fn test(&self, form: &Form) -> Result<(), ScriptError>
+    pub(crate) fn check_form(&self, form: &Form) -> Result<(), ScriptError>
         ensures says { IsRead result (run (tests (known self.now) form.now)) }
         ensures room { OnOk result (has_room (known self.now) ≡ true) }
         ensures within { OnOk result (is_within (known self.now) form.now ≡ true) }

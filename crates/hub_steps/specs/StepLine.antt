@@ -150,14 +150,14 @@ word_alone None text = Ok text
 word_alone (Some parts) text = Err BadWords
 
 -- the last word of a step line, or the rest of it
-abbrev pub last_word : Bool → List ℕ → Read (List ℕ)
-last_word true text = Ok text
-last_word false text = word_alone (cut 32 text) text
+abbrev pub only_word : Bool → List ℕ → Read (List ℕ)
+only_word true text = Ok text
+only_word false text = word_alone (cut 32 text) text
 
 -- a text that is cut into as many words
 abbrev pub cut_into : (kinds : List WordKind) → List ℕ → Read (Texts kinds)
 cut_into [] text = Err BadWords
-cut_into (kind ∷ []) text = last_word (is_rest kind) text
+cut_into (kind ∷ []) text = only_word (is_rest kind) text
 cut_into (kind ∷ second ∷ kinds) text = do
   parts ← word_before text
   words ← cut_into (second ∷ kinds) parts.1

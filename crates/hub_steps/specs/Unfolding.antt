@@ -116,10 +116,10 @@ tell refused s = do
   tell_inside refused s entered
 
 -- what a closing shows, by that answer and by that of the Close
-abbrev pub close_shown : Outcome → Outcome → Shown
-close_shown outcome.NoMemory answer = DoneNoMemory
-close_shown outcome.Moved answer = DoneMoving
-close_shown told answer = Answer answer
+abbrev pub shown_closing : Outcome → Outcome → Shown
+shown_closing outcome.NoMemory answer = DoneNoMemory
+shown_closing outcome.Moved answer = DoneMoving
+shown_closing told answer = Answer answer
 
 abbrev pub close_on : Bool → EndId → Option Sender → Computation Shown
 close_on refused e None = shown_step refused (action.Close e)
@@ -127,7 +127,7 @@ close_on refused e (Some s) = do
   told ← tell refused s
   left ← step refused (action.Leave s)
   closed ← step refused (action.Close e)
-  pure (close_shown told closed)
+  pure (shown_closing told closed)
 
 -- The closing of an end. A port's own poster enters, puts the notice where it is inside, and leaves; and then Close. At
 -- a client's or worker's queue or a broadcast channel, and where the Close would be answered Closed or NotNow, that is the only step.
@@ -230,15 +230,15 @@ start_where refused e true = do
 start_where refused e false = pure tt
 
 -- Start of a worker's queue; no step of any other end
-abbrev pub start_worker : Bool → EndId → Computation (Unit {0})
-start_worker refused e = do
+abbrev pub start_worker_queue : Bool → EndId → Computation (Unit {0})
+start_worker_queue refused e = do
   of_worker ← ask (λ f. is_queue_of Worker (f.end e.0).kind)
   start_where refused e of_worker
 
 -- What follows an Adopt. A worker's queue that was adopted is started, which isn't shown.
 abbrev pub start_adopted : Bool → EndId → Outcome → Computation Shown
 start_adopted refused e (outcome.Adopted k) = do
-  started ← start_worker refused e
+  started ← start_worker_queue refused e
   pure (Answer (outcome.Adopted k))
 start_adopted refused e answer = pure (Answer answer)
 

@@ -5,7 +5,7 @@ ghost use Rattle.hub_core.specs.Facts.{facts};
 ghost use Rattle.hub_core.specs.History.{History};
 ghost use Rattle.hub_core.specs.Shows.{Shows};
 ghost use Rattle.hub_steps.specs.Performed.{ComputesAt};
-ghost use Rattle.hub_steps.specs.Unfolding.{close, close_each, close_ports, close_shown};
+ghost use Rattle.hub_steps.specs.Unfolding.{close, close_each, close_ports, shown_closing};
 ghost use Rattle.hub_steps.specs.Unfolding.{notice_line, sweep, tell};
 
 use crate::entering::{enter, show_step, take_step};
@@ -25,7 +25,7 @@ pub fn close(core: &mut Core, end: EndId, memory_refused: bool) -> Result<Shown,
     let told = tell(core, line, memory_refused)?;
     take_step(core, Action::Leave(line), memory_refused)?;
     let closed = take_step(core, Action::Close(end), memory_refused)?;
-    Ok(close_shown(told, closed))
+    Ok(shown_closing(told, closed))
 }
 
 /// The line on which the closing of a port puts its notice, where its Close would be answered
@@ -52,8 +52,8 @@ fn tell(core: &mut Core, line: Sender, memory_refused: bool) -> Result<Outcome, 
 }
 
 /// What a closing shows, by what came of the notice.
-fn close_shown(told: Outcome, closed: Outcome) -> Shown
-    ensures { result ≡ close_shown told closed }
+fn shown_closing(told: Outcome, closed: Outcome) -> Shown
+    ensures { result ≡ shown_closing told closed }
 {
     match told {
         Outcome::NoMemory => Shown::DoneNoMemory,

@@ -1,9 +1,7 @@
 //! The engine of `messagehub steps`.
 
 ghost use Rattle.std.specs.Prelude.{◌≡◌, ◌⊎◌, ◌+◌, ◌≤◌, List, Ok, Err, IfErr, OnOk, length};
-ghost use Rattle.hub_engine.specs.Counted.{flushes_made, inner_reader, inner_writer};
-ghost use Rattle.hub_engine.specs.Engine.{AnswersInput, CountsDevice};
-ghost use Rattle.hub_engine.specs.Failures.{CountsFlush};
+ghost use Rattle.hub_engine.specs.Engine.{EndsAnswer};
 ghost use Rattle.hub_text.specs.TextLines.{text_lines_of};
 ghost use Rattle.hub_steps.specs.Output.{IsStepsOutput};
 ghost use Rattle.hub_steps.specs.StepText.{OneText};
@@ -11,7 +9,7 @@ ghost use Rattle.hub_steps.specs.Steps.{steps_from};
 ghost use Rattle.hub_steps.specs.declared.step_line.StepLine.{StepLine as Line};
 
 use crate::read_step_line::read_step_line;
-use crate::run::{HeldBack, hold_back};
+use crate::run::{HeldBack, run_held};
 use crate::step_line::StepLineError;
 use hub_engine::{
     CountedReader, CountedWriter, Device, Engine, ExitStatus, end_unread, run_engine,
@@ -30,10 +28,8 @@ pub fn run_steps<R: Read, W: Write>(
     reader: &mut CountedReader<R>,
     writer: &mut CountedWriter<W>,
 ) -> Result<ExitStatus, Device>
-    ensures written { AnswersInput IsStepsOutput (R.remaining (inner_reader reader.old))
-        (W.contents (inner_writer writer.old)) (W.contents (inner_writer writer.new)) result }
-    ensures failures { CountsDevice reader.old reader.new writer.old writer.new result }
-    ensures flushed { CountsFlush result (flushes_made writer.old) (flushes_made writer.new) }
+    ensures { EndsAnswer R.remaining W.contents IsStepsOutput
+        reader.old reader.new writer.old writer.new result }
 {
     run_engine::<StepsEngine, R, W>(alloc, reader, writer)
 }
@@ -59,7 +55,7 @@ impl Engine for StepsEngine {
         input: Vec<u8>,
         writer: &mut CountedWriter<W>,
     ) -> Result<ExitStatus, Device> {
-        let held = match hold_back(alloc, &input) {
+        let held = match run_held(alloc, &input) {
             Ok(held) => held,
             Err((line, error)) => return end_unread(alloc, writer, line, error.name()),
         };
@@ -74,7 +70,7 @@ impl Engine for StepsEngine {
             return end_unread(alloc, writer, line, error.name());
         }
         if has_memory {
-            run.write_rest(alloc, rest, writer)
+            run.run_rest(alloc, rest, writer)
         } else {
             run.cut_short(writer)
         }

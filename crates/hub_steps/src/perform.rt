@@ -15,7 +15,7 @@ use crate::entering::{show_step, take_step};
 use crate::lives::Lives;
 use crate::posting::post;
 use crate::shown::Shown;
-use crate::starting::{adopt, load, make_agent, make_member, make_worker};
+use crate::starting::{adopt, load, make_agent, make_member, make_worker_queue};
 use crate::step_line::{Command, PosterCommand, PosterName, StepLine};
 use hub_core::{Action, Core, Kind, OutOfMemory, Outcome, Sender};
 use hub_envelope::{AgentId, EndId, LineId, MAX_LINES};
@@ -81,7 +81,7 @@ fn perform_rarer(
     match command {
         Command::Step(action) => show_step(core, action, memory_refused),
         Command::Agent(url) => make_agent(core, lives, url, memory_refused),
-        Command::Worker(agent) => make_worker(core, lives, agent, memory_refused),
+        Command::Worker(agent) => make_worker_queue(core, lives, agent, memory_refused),
         Command::Member(agent, name) => make_member(core, agent, name, memory_refused),
         Command::At(poster, command) => perform_at(core, poster, command, memory_refused),
         Command::Loaded(end) => load(core, end, memory_refused),

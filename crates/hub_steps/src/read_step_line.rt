@@ -5,7 +5,7 @@ ghost use Rattle.std.specs.Prelude.{codes, false, option_map, true};
 ghost use Rattle.hub_text.specs.Reading.{IsReadAs};
 ghost use Rattle.hub_steps.specs.ReadMemory.{has_part, reads_memory, text_reads_memory};
 ghost use Rattle.hub_steps.specs.StepLine.{A, BODY, E, LIST, NAME, P, U, WORD, command_in};
-ghost use Rattle.hub_steps.specs.StepLine.{command_of, cut_after, last_word, line_read, mark};
+ghost use Rattle.hub_steps.specs.StepLine.{command_of, cut_after, only_word, line_read, mark};
 ghost use Rattle.hub_steps.specs.StepLine.{number_read, poster_named, row_named, spelled};
 ghost use Rattle.hub_steps.specs.StepLine.{step_line_of, table, word_read, words_after};
 
@@ -14,7 +14,7 @@ use hub_core::Action;
 use hub_envelope::{AgentId, Body, EndId, Items, LineId, Text};
 use hub_life::Event;
 use hub_origin::{OriginError, origin_of};
-use hub_text::{cut_at, next_word, number_of as number_up_to, read_ends};
+use hub_text::{cut_at, number_of as number_up_to, read_ends, split_word};
 use serde_json::Value;
 use std::alloc::Global;
 
@@ -86,7 +86,7 @@ fn command_in(alloc: Global, text: &str) -> Result<Command, StepLineError>
     ensures memory { IfErr result (λ e. e ≡ StepLineError.OutOfMemory
         → text_reads_memory text.now ≡ true) }
 {
-    match next_word(text) {
+    match split_word(text) {
         Some((name, rest)) => command_of(alloc, name, Some(rest)),
         None => command_of(alloc, text, None),
     }
@@ -273,7 +273,7 @@ fn one_word(rest: Option<&str>) -> Result<&str, StepLineError>
     let Some(text) = rest else {
         return Err(StepLineError::BadWords);
     };
-    last_word(text)
+    only_word(text)
 }
 
 /// Two words, and no more.
@@ -283,7 +283,7 @@ fn two_words(rest: Option<&str>) -> Result<(&str, &str), StepLineError>
     ensures memory { IfErr result (λ e. e ≢ StepLineError.OutOfMemory) }
 {
     let (first, rest) = word_and_rest(rest)?;
-    let second = last_word(rest)?;
+    let second = only_word(rest)?;
     Ok((first, second))
 }
 
@@ -296,7 +296,7 @@ fn word_and_rest(rest: Option<&str>) -> Result<(&str, &str), StepLineError>
     let Some(text) = rest else {
         return Err(StepLineError::BadWords);
     };
-    match next_word(text) {
+    match split_word(text) {
         Some(parts) => Ok(parts),
         None => Err(StepLineError::BadWords),
     }
@@ -314,12 +314,12 @@ fn two_words_and_rest(rest: Option<&str>) -> Result<(&str, &str, &str), StepLine
 }
 
 /// The last word of a step line.
-fn last_word(text: &str) -> Result<&str, StepLineError>
+fn only_word(text: &str) -> Result<&str, StepLineError>
     ensures read { IsReadAs StepLineError.OutOfMemory (λ x. x.now) result
-        (last_word false text.now) }
+        (only_word false text.now) }
     ensures memory { IfErr result (λ e. e ≢ StepLineError.OutOfMemory) }
 {
-    match next_word(text) {
+    match split_word(text) {
         None => Ok(text),
         Some(_) => Err(StepLineError::BadWords),
     }

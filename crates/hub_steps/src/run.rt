@@ -76,7 +76,7 @@ pub struct HeldBack<'a> {
 /// which a bad text line comes later are never written. It stops where `MAX_HELD` bytes are kept,
 /// and where memory runs out at a step line. An error is that of the first bad text line, by its
 /// number from 1.
-pub fn hold_back<'a>(alloc: Global, input: &'a [u8]) -> Result<HeldBack<'a>, (usize, StepLineError)>
+pub fn run_held<'a>(alloc: Global, input: &'a [u8]) -> Result<HeldBack<'a>, (usize, StepLineError)>
     ensures held { IfOk result (λ held. IsHeld input.now held) }
     ensures room { IfOk result (λ held. held.number + length held.rest.now ≤ length input.now) }
     ensures err { IfErr result (λ e. (e.1 ≡ StepLineError.OutOfMemory)
@@ -159,7 +159,7 @@ impl StepRun {
     }
 
     /// Runs the step lines that are left, which were tested, and writes the outcome lines of all.
-    pub fn write_rest<W: Write>(
+    pub fn run_rest<W: Write>(
         &mut self,
         alloc: Global,
         rest: &[u8],

@@ -4,7 +4,7 @@ ghost use Rattle.std.specs.Prelude.{◌≡◌, IfOk, IsOk, OnErr, OnOk};
 ghost use Rattle.hub_core.specs.Shows.{StillShows};
 ghost use Rattle.hub_steps.specs.Performed.{ComputesAt};
 ghost use Rattle.hub_steps.specs.Unfolding.{adopt, agent, agent_lives, lives_after, load};
-ghost use Rattle.hub_steps.specs.Unfolding.{shown_step, start_worker, then_start};
+ghost use Rattle.hub_steps.specs.Unfolding.{shown_step, start_worker_queue, then_start};
 
 use crate::entering::{show_step, take_step};
 use crate::lives::Lives;
@@ -76,7 +76,7 @@ fn then_start(core: &mut Core, action: Action, memory_refused: bool) -> Result<O
 }
 
 /// Makes the queue of a worker, and starts it. The agent has a life from then on.
-pub fn make_worker(
+pub fn make_worker_queue(
     core: &mut Core,
     lives: &mut Lives,
     agent: AgentId,
@@ -120,7 +120,7 @@ pub fn adopt(
 {
     match take_step(core, Action::Adopt(end, agent), memory_refused)? {
         Outcome::Adopted(queue) => {
-            start_worker(core, end, memory_refused)?;
+            start_worker_queue(core, end, memory_refused)?;
             Ok(Shown::Answer(Outcome::Adopted(queue)))
         }
         answer => Ok(Shown::Answer(answer)),
@@ -128,8 +128,8 @@ pub fn adopt(
 }
 
 /// Starts a worker's queue. Of any other end no step is taken.
-fn start_worker(core: &mut Core, end: EndId, memory_refused: bool) -> Result<(), OutOfMemory>
-    ensures { OnOk result (ComputesAt core.old core.new (start_worker memory_refused end) tt) }
+fn start_worker_queue(core: &mut Core, end: EndId, memory_refused: bool) -> Result<(), OutOfMemory>
+    ensures { OnOk result (ComputesAt core.old core.new (start_worker_queue memory_refused end) tt) }
 {
     if matches!(core.kind_of(end), Some(Kind::Worker)) {
         take_step(core, Action::Start(end), memory_refused)?;

@@ -18,21 +18,21 @@ pub not_none : (max : ℕ) (list : List ℕ) → bytes_eq list (codes "-") ≡ f
 unfolding ends_listed
 not_none max list h = ap (λ b. cond b (Some []) (ends_from max [] (words_of list))) h
 
-next_word : (max : ℕ) (list : List ℕ) (ends : List EndId) (n : ℕ) (w : List ℕ) → (n < length (words_of list)) × (w ≡ get_or (words_of list) n w) → ReadSoFar max list ends n
+split_word : (max : ℕ) (list : List ℕ) (ends : List EndId) (n : ℕ) (w : List ℕ) → (n < length (words_of list)) × (w ≡ get_or (words_of list) n w) → ReadSoFar max list ends n
     → option_and_then (λ longer. ends_from max longer (drop (n + 1) (words_of list))) (with_end max ends w) ≡ ends_from max [] (words_of list)
-next_word max list ends n w h so_far =
+split_word max list ends n w h so_far =
     ap (λ x. option_and_then (λ longer. ends_from max longer (drop (n + 1) (words_of list))) (with_end max ends x)) h.1
     ∙ sym (at_drop_more (ends_from max ends) (words_of list) n w h.0) ∙ so_far
 
 pub one_more : (max : ℕ) (list : List ℕ) (ends longer : List EndId) (n : ℕ) (w : List ℕ) → (n < length (words_of list)) × (w ≡ get_or (words_of list) n w) → ReadSoFar max list ends n
     → with_end max ends w ≡ Some longer → ReadSoFar max list longer (n + 1)
 one_more max list ends longer n w h so_far added =
-    sym (ap (λ (r : Option (List EndId)). option_and_then (λ (x : List EndId). ends_from max x (drop (n + 1) (words_of list))) r) added) ∙ next_word max list ends n w h so_far
+    sym (ap (λ (r : Option (List EndId)). option_and_then (λ (x : List EndId). ends_from max x (drop (n + 1) (words_of list))) r) added) ∙ split_word max list ends n w h so_far
 
 pub refused : (max : ℕ) (list : List ℕ) (ends : List EndId) (n : ℕ) (w : List ℕ) → bytes_eq list (codes "-") ≡ false → (n < length (words_of list)) × (w ≡ get_or (words_of list) n w) → ReadSoFar max list ends n
     → with_end max ends w ≡ None → ends_listed max list ≡ None
 refused max list ends n w other h so_far bad =
-    not_none max list other ∙ sym (next_word max list ends n w h so_far) ∙ ap (λ (r : Option (List EndId)). option_and_then (λ (x : List EndId). ends_from max x (drop (n + 1) (words_of list))) r) bad
+    not_none max list other ∙ sym (split_word max list ends n w h so_far) ∙ ap (λ (r : Option (List EndId)). option_and_then (λ (x : List EndId). ends_from max x (drop (n + 1) (words_of list))) r) bad
 
 pub all_read : (max : ℕ) (list : List ℕ) (ends : List EndId) (n : ℕ) → bytes_eq list (codes "-") ≡ false → length (words_of list) ≤ n → ReadSoFar max list ends n → ends_listed max list ≡ Some ends
 all_read max list ends n other past so_far = not_none max list other ∙ sym so_far ∙ at_drop_all (ends_from max ends) (words_of list) n past

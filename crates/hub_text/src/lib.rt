@@ -9,4 +9,4 @@ mod end_list;
 mod words;
 
 pub use end_list::{EndListText, read_ends};
-pub use words::{cut_at, next_word, number_of, split_text_line};
+pub use words::{cut_at, number_of, split_text_line, split_word};

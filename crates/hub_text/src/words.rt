@@ -25,7 +25,7 @@ pub fn split_text_line(bytes: &[u8]) -> (&[u8], &[u8])
 
 /// The first word and what comes after the single space behind it. `None` where no space is.
 /// A text that begins with a space has an empty first word.
-pub fn next_word(text: &str) -> Option<(&str, &str)>
+pub fn split_word(text: &str) -> Option<(&str, &str)>
     ensures { option_map (λ x. (x.0.now, x.1.now)) result ≡ cut 32 text.now }
 {
     cut_at(text, b' ')

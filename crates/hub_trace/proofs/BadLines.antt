@@ -16,7 +16,7 @@ use Rattle.hub_trace.specs.declared.log_line.LogLine.{LogLine}
 use Rattle.hub_trace.specs.declared.log_line.LogLine.TheVariants as line
 use Rattle.hub_trace.specs.Accepted.{AgentLog}
 use Rattle.hub_trace.specs.Closings.{closes_again}
-use Rattle.hub_trace.specs.LogLine.{LogRead, adoption_in, agent_in, begins_with_space, body_answer, body_in, content_cut, content_in, delivery_in, end_in, epoch_in, posted_in, line_in_logs, log_line_of, log_line_with, message_with, number_in_logs, parts_in, ports_in_logs, ports_tested, text_in_logs}
+use Rattle.hub_trace.specs.LogLine.{LogRead, adoption_in, agent_in, begins_with_space, body_answer, body_in, content_cut, content_in, delivery_in, end_in, epoch_in, posted_in, line_id_in, log_line_of, log_line_with, payload_in, number_in_logs, parts_in, ports_in_logs, ports_tested, log_line_in}
 use Rattle.hub_trace.specs.PortList.{is_port_list}
 use Rattle.hub_trace.specs.Read.{line_added, with_entry, with_log_line}
 
@@ -56,7 +56,7 @@ unfolding posted_in
 posted v e l name =
     then (parts_in 58 name) _ (parts 58 name) (λ p.
     then (end_in e) _ (end e) (λ x.
-    then (line_in_logs v l) _ (then (number_in_logs (max_line v) l) _ (number (max_line v) l) (λ n. ok (record { 0 = n }))) (λ y.
+    then (line_id_in v l) _ (then (number_in_logs (max_line v) l) _ (number (max_line v) l) (λ n. ok (record { 0 = n }))) (λ y.
     then (epoch_in p.0) _ (number 65535 p.0) (λ epoch.
     then (number_in_logs 4611686018427387903 p.1) _ (number 4611686018427387903 p.1) (λ n. ok (record { end = x; line = y; epoch = epoch; number = n }))))))
 
@@ -72,15 +72,15 @@ body : (v : LogVersion) (text : List ℕ) → RefusesBad (body_in v text)
 unfolding body_in
 body v text = either (begins_with_space text) (Err BadLine) (body_answer v (answer_of text)) bad (answer v (answer_of text))
 
-message : (v : LogVersion) (list text : List ℕ) → RefusesBad (message_with v list text)
-unfolding message_with
+message : (v : LogVersion) (list text : List ℕ) → RefusesBad (payload_in v list text)
+unfolding payload_in
 message v list text =
     then (ports_in_logs list) _ (ports list) (λ ends.
     then (body_in v text) _ (body v text) (λ b. ok (ends, b)))
 
 content_of_cut : (v : LogVersion) (text : List ℕ) (parts : Option (List ℕ × List ℕ)) → RefusesBad (content_cut v text parts)
 content_of_cut v text None = either (has_notices v && bytes_eq text (codes "notice")) (Ok Notice) (Err BadLine) (ok Notice) bad
-content_of_cut v text (Some p) = then (message_with v p.0 p.1) _ (message v p.0 p.1) (λ m. ok (Payload m))
+content_of_cut v text (Some p) = then (payload_in v p.0 p.1) _ (message v p.0 p.1) (λ m. ok (Payload m))
 
 content : (v : LogVersion) (text : List ℕ) → RefusesBad (content_in v text)
 unfolding content_in
@@ -111,13 +111,13 @@ with_name v name rest =
     (either (bytes_eq name (codes "adopted")) _ _ (then (adoption_in rest) _ (adoption rest) (λ e. ok _))
     (either (bytes_eq name (codes "closed")) _ _ (then (end_in rest) _ (end rest) (λ e. ok _)) bad))))
 
-line_text : (v : LogVersion) (text : List ℕ) → RefusesBad (text_in_logs v text)
-unfolding text_in_logs
+line_text : (v : LogVersion) (text : List ℕ) → RefusesBad (log_line_in v text)
+unfolding log_line_in
 line_text v text = then (parts_in 32 text) _ (parts 32 text) (λ p. with_name v p.0 p.1)
 
 log_line : (v : LogVersion) (bytes : List ℕ) → RefusesBad (log_line_of v bytes)
 unfolding log_line_of
-log_line v bytes = either (is_utf8 bytes) (text_in_logs v bytes) (Err BadLine) (line_text v bytes) bad
+log_line v bytes = either (is_utf8 bytes) (log_line_in v bytes) (Err BadLine) (line_text v bytes) bad
 
 with : (logs : List AgentLog) (l : LogLine) → RefusesBad (with_log_line logs l)
 with logs (line.Agent a) = ok _

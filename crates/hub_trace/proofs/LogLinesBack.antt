@@ -30,7 +30,7 @@ use Rattle.hub_trace.specs.declared.log_line.LogLine.TheVariants as line
 use Rattle.hub_trace.specs.declared.error.LogError.TheVariants.{BadLine}
 use Rattle.hub_trace.specs.declared.read.TheConstants.{LOGS_END}
 use Rattle.hub_trace.specs.Limits.{IsContentWithin, IsDeliveryWithin, IsEntryWithin, IsPostedWithin, IsMessageWithin, IsPortList}
-use Rattle.hub_trace.specs.LogLine.{LogRead, adoption_in, begins_with_space, body_answer, body_in, content_cut, content_in, delivery_in, end_in, epoch_in, posted_in, line_in_logs, log_line_of, log_line_with, message_with, number_in_logs, parts_in, ports_in_logs, text_in_logs}
+use Rattle.hub_trace.specs.LogLine.{LogRead, adoption_in, begins_with_space, body_answer, body_in, content_cut, content_in, delivery_in, end_in, epoch_in, posted_in, line_id_in, log_line_of, log_line_with, payload_in, number_in_logs, parts_in, ports_in_logs, log_line_in}
 use Rattle.hub_trace.specs.Text.{content_text, delivery_text, entry_text}
 use Rattle.hub_trace.proofs.Bytes.{HasOnly, HasOnly-append, HasOnly-weaker, Lacks, Lacks-decimal, both, cut-here, decimal-visible, other_than-digit, is_visible-digit, is_visible, other_than}
 use Rattle.hub_trace.proofs.LogLineText.{text_line}
@@ -85,7 +85,7 @@ unfolding posted_in
 posted_back v l h =
     let e1 : parts_in 58 (decimal l.epoch ++ 58 ∷ decimal l.number) ≡ Ok (decimal l.epoch, decimal l.number) = parts-here 58 (decimal l.epoch) (decimal l.number) (Lacks-decimal 58 l.epoch refl (let k = h.epoch in omega arith)) in
     let e2 : end_in (decimal l.end.0) ≡ Ok l.end = end_back l.end h.end in
-    let e3 : line_in_logs v (decimal l.line.0) ≡ Ok l.line = ap (λ (r : LogRead ℕ). r >>= λ (n : ℕ). Ok (record { 0 = n })) (number_back (max_line v) l.line.0 h.line (omega (arith, lines_few v))) in
+    let e3 : line_id_in v (decimal l.line.0) ≡ Ok l.line = ap (λ (r : LogRead ℕ). r >>= λ (n : ℕ). Ok (record { 0 = n })) (number_back (max_line v) l.line.0 h.line (omega (arith, lines_few v))) in
     let e4 : epoch_in (decimal l.epoch) ≡ Ok l.epoch = number_back 65535 l.epoch h.epoch (omega arith) in
     let e5 : number_in_logs 4611686018427387903 (decimal l.number) ≡ Ok l.number = number_back 4611686018427387903 l.number h.number (omega arith) in
     rw (e1, e2, e3, e4, e5) refl
@@ -119,8 +119,8 @@ body_back v text h le =
     ap (λ b. cond b (Err BadLine) (body_answer v (answer_of text))) (no_space text (body-first text h)) ∙ ap (body_answer v) (answer_of-again text h)
     ∙ ap (λ b. cond b (Ok text) (Err BadLine)) fits
 
-message_back : (v : LogVersion) (m : List EndId × List ℕ) → IsMessageWithin v m → message_with v (ends_text m.0) m.1 ≡ Ok m
-unfolding message_with
+message_back : (v : LogVersion) (m : List EndId × List ℕ) → IsMessageWithin v m → payload_in v (ends_text m.0) m.1 ≡ Ok m
+unfolding payload_in
 message_back v m h =
     let e2 : ports_in_logs (ends_text m.0) ≡ Ok m.0 = ports-back m.0 h.ports in
     let e3 : body_in v m.1 ≡ Ok m.1 = body_back v m.1 h.body h.short in
@@ -181,13 +181,13 @@ adoption_back e epoch known le =
     let e3 : epoch_in (decimal epoch) ≡ Ok epoch = number_back 65535 epoch le (omega arith) in
     rw (e1, e2, e3) refl
 
-said_after : (v : LogVersion) (name rest : List ℕ) → Lacks 32 name → text_in_logs v (name ++ 32 ∷ rest) ≡ log_line_with v name rest
-unfolding text_in_logs
+said_after : (v : LogVersion) (name rest : List ℕ) → Lacks 32 name → log_line_in v (name ++ 32 ∷ rest) ≡ log_line_with v name rest
+unfolding log_line_in
 said_after v name rest lacks =
     let e1 : parts_in 32 (name ++ 32 ∷ rest) ≡ Ok (name, rest) = parts-here 32 name rest lacks in
     rw e1 refl
 
-entry_said : (v : LogVersion) (e : LogEntry) → IsEntryWithin v e → text_in_logs v (entry_text e) ≡ Ok (line.Entry e)
+entry_said : (v : LogVersion) (e : LogEntry) → IsEntryWithin v e → log_line_in v (entry_text e) ≡ Ok (line.Entry e)
 unfolding log_line_with
 entry_said v (Put d) h =
     said_after v (codes "put") (delivery_text d) refl
@@ -196,7 +196,7 @@ entry_said v (Got d) h =
     said_after v (codes "got") (delivery_text d) refl
     ∙ ap (λ (r : LogRead Delivery). r >>= λ (x : Delivery). Ok (line.Entry (Got x))) (delivery_back v d h)
 entry_said v (Adopted e epoch) h =
-    ap (text_in_logs v) (adopted_words (decimal e.0) (decimal epoch))
+    ap (log_line_in v) (adopted_words (decimal e.0) (decimal epoch))
     ∙ said_after v (codes "adopted") (decimal e.0 ++ 32 ∷ decimal epoch) refl
     ∙ ap (λ (r : LogRead (EndId × ℕ)). r >>= λ (x : EndId × ℕ). Ok (line.Entry (Adopted x.0 x.1))) (adoption_back e epoch h.0 h.1)
 entry_said v (Closed e) h =
@@ -214,7 +214,7 @@ entry-visible v (Adopted e epoch) h =
     (HasOnly-append is_visible (decimal e.0) (32 ∷ decimal epoch) (decimal-visible e.0 (small_end e.0 h.0)) (decimal-visible epoch (small_end epoch h.1)))
 entry-visible v (Closed e) h = decimal-visible e.0 (small_end e.0 h)
 
-agent_said : (v : LogVersion) (a : AgentId) → a.0 ≤ 15 → text_in_logs v (codes "agent " ++ decimal a.0) ≡ Ok (line.Agent a)
+agent_said : (v : LogVersion) (a : AgentId) → a.0 ≤ 15 → log_line_in v (codes "agent " ++ decimal a.0) ≡ Ok (line.Agent a)
 unfolding log_line_with
 agent_said v a le =
     said_after v (codes "agent") (decimal a.0) refl

@@ -43,8 +43,8 @@ abbrev pub end_in : List ℕ → LogRead EndId
 end_in word = number_in_logs MAX_END word >>= λ n. Ok (record { 0 = n })
 
 -- in logs of the version
-abbrev pub line_in_logs : LogVersion → List ℕ → LogRead LineId
-line_in_logs v word = number_in_logs (max_line v) word >>= λ n. Ok (record { 0 = n })
+abbrev pub line_id_in : LogVersion → List ℕ → LogRead LineId
+line_id_in v word = number_in_logs (max_line v) word >>= λ n. Ok (record { 0 = n })
 
 abbrev pub epoch_in : List ℕ → LogRead ℕ
 epoch_in word = number_in_logs MAX_EPOCH word
@@ -54,7 +54,7 @@ unfoldable pub posted_in : LogVersion → List ℕ → List ℕ → List ℕ →
 posted_in v end line name = do
   parts ← parts_in 58 name
   e ← end_in end
-  l ← line_in_logs v line
+  l ← line_id_in v line
   epoch ← epoch_in parts.0
   number ← number_in_logs MAX_NUMBER parts.1
   Ok (record { end = e; line = l; epoch = epoch; number = number })
@@ -84,8 +84,8 @@ unfoldable pub body_in : LogVersion → List ℕ → LogRead (List ℕ)
 body_in v text = if begins_with_space text then Err BadLine else body_answer v (answer_of text)
 
 -- a LIST and a BODY
-unfoldable pub message_with : LogVersion → List ℕ → List ℕ → LogRead (List EndId × List ℕ)
-message_with v list text = do
+unfoldable pub payload_in : LogVersion → List ℕ → List ℕ → LogRead (List EndId × List ℕ)
+payload_in v list text = do
   ports ← ports_in_logs list
   body ← body_in v text
   Ok (ports, body)
@@ -93,7 +93,7 @@ message_with v list text = do
 -- one word or two, and more
 abbrev pub content_cut : LogVersion → List ℕ → Option (List ℕ × List ℕ) → LogRead Content
 content_cut v text None = if has_notices v && bytes_eq text (codes "notice") then Ok Notice else Err BadLine
-content_cut v text (Some parts) = message_with v parts.0 parts.1 >>= λ m. Ok (Payload m)
+content_cut v text (Some parts) = payload_in v parts.0 parts.1 >>= λ m. Ok (Payload m)
 
 -- `LIST BODY`, or `notice` where the version has notices
 unfoldable pub content_in : LogVersion → List ℕ → LogRead Content
@@ -127,9 +127,9 @@ log_line_with v name rest =
     else (if bytes_eq name (codes "closed") then end_in rest >>= (λ e. Ok (line.Entry (Closed e)))
     else Err BadLine))))
 
-unfoldable pub text_in_logs : LogVersion → List ℕ → LogRead LogLine
-text_in_logs v text = parts_in 32 text >>= λ parts. log_line_with v parts.0 parts.1
+unfoldable pub log_line_in : LogVersion → List ℕ → LogRead LogLine
+log_line_in v text = parts_in 32 text >>= λ parts. log_line_with v parts.0 parts.1
 
 -- the log line that the bytes of a text line are, in logs of the version
 unfoldable pub log_line_of : LogVersion → List ℕ → LogRead LogLine
-log_line_of v bytes = if is_utf8 bytes then text_in_logs v bytes else Err BadLine
+log_line_of v bytes = if is_utf8 bytes then log_line_in v bytes else Err BadLine

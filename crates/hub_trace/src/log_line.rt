@@ -8,9 +8,9 @@ ghost use Rattle.hub_trace.specs.LogVersion.{max_body, max_line};
 ghost use Rattle.hub_trace.specs.Limits.{IsContentWithin, IsDeliveryWithin, IsPostedWithin};
 ghost use Rattle.hub_trace.specs.Limits.{IsLogLineWithin, IsMessageWithin, IsPortList};
 ghost use Rattle.hub_trace.specs.LogLine.{adoption_in, agent_in, body_in, content_in, delivery_in};
-ghost use Rattle.hub_trace.specs.LogLine.{end_in, epoch_in, posted_in, line_in_logs, log_line_of};
-ghost use Rattle.hub_trace.specs.LogLine.{log_line_with, message_with, number_in_logs, parts_in};
-ghost use Rattle.hub_trace.specs.LogLine.{ports_in_logs, text_in_logs};
+ghost use Rattle.hub_trace.specs.LogLine.{end_in, epoch_in, posted_in, line_id_in, log_line_of};
+ghost use Rattle.hub_trace.specs.LogLine.{log_line_with, payload_in, number_in_logs, parts_in};
+ghost use Rattle.hub_trace.specs.LogLine.{ports_in_logs, log_line_in};
 ghost use Rattle.hub_trace.specs.ReadMemory.{delivers_message, has_message, is_delivery};
 ghost use Rattle.hub_trace.specs.ReadMemory.{log_reads_memory};
 
@@ -21,7 +21,7 @@ use crate::log_entry::{Delivery, LogEntry};
 use crate::log_version::LogVersion;
 use crate::payload::Payload;
 use hub_envelope::{AgentId, Body, BodyError, EndId, Items, LineId, Posted};
-use hub_text::{cut_at, next_word, number_of, read_ends};
+use hub_text::{cut_at, number_of, read_ends, split_word};
 use std::alloc::Global;
 
 /// What a log line below the header says.
@@ -48,12 +48,12 @@ pub(crate) fn read_log_line(
     let Ok(text) = str::from_utf8(bytes) else {
         return Err(LogError::BadLine);
     };
-    text_in_logs(alloc, version, text)
+    log_line_in(alloc, version, text)
 }
 
-#[tactic(auto, unfolding(crate::specs::LogLine::text_in_logs))]
-fn text_in_logs(alloc: Global, version: LogVersion, text: &str) -> Result<LogLine, LogError>
-    ensures says { IsReadAs LogError.OutOfMemory (λ x. x) result (text_in_logs version text.now) }
+#[tactic(auto, unfolding(crate::specs::LogLine::log_line_in))]
+fn log_line_in(alloc: Global, version: LogVersion, text: &str) -> Result<LogLine, LogError>
+    ensures says { IsReadAs LogError.OutOfMemory (λ x. x) result (log_line_in version text.now) }
     ensures within { IfOk result (λ l. IsLogLineWithin version l) }
     ensures memory { IfErr result (λ e. e ≡ LogError.OutOfMemory
         → log_reads_memory text.now ≡ true) }
@@ -130,7 +130,7 @@ fn posted_in(version: LogVersion, end: &str, line: &str, name: &str) -> Result<P
     let (epoch, number) = name_parts(name)?;
     Ok(Posted {
         end: end_in(end)?,
-        line: line_in_logs(version, line)?,
+        line: line_id_in(version, line)?,
         epoch: epoch_in(epoch)?,
         number: number_in_logs(number, MAX_NUMBER)?,
     })
@@ -144,9 +144,9 @@ fn content_in(alloc: Global, version: LogVersion, text: &str) -> Result<Content,
     ensures memory { IfErr result (λ e. e ≡ LogError.OutOfMemory
         → has_message text.now ≡ true) }
 {
-    match next_word(text) {
+    match split_word(text) {
         Some((list, body)) => {
-            let message = message_with(alloc, version, list, body)?;
+            let message = payload_in(alloc, version, list, body)?;
             Ok(Content::Payload(message))
         }
         None if version.has_notices() && text == "notice" => Ok(Content::Notice),
@@ -154,15 +154,15 @@ fn content_in(alloc: Global, version: LogVersion, text: &str) -> Result<Content,
     }
 }
 
-#[tactic(auto, unfolding(crate::specs::LogLine::message_with))]
-fn message_with(
+#[tactic(auto, unfolding(crate::specs::LogLine::payload_in))]
+fn payload_in(
     alloc: Global,
     version: LogVersion,
     list: &str,
     body: &str,
 ) -> Result<Payload, LogError>
     ensures says { IsReadAs LogError.OutOfMemory (λ x. x) result
-        (message_with version list.now body.now) }
+        (payload_in version list.now body.now) }
     ensures within { IfOk result (λ m. IsMessageWithin version m) }
 {
     let ports = ports_in_logs(alloc, list)?;
@@ -177,7 +177,7 @@ fn first_word(text: &str) -> Result<(&str, &str), LogError>
     ensures parts { IfOk result (λ x. cut 32 text.now ≡ Some (x.0.now, x.1.now)) }
     ensures memory { IfErr result (λ e. e ≢ LogError.OutOfMemory) }
 {
-    match next_word(text) {
+    match split_word(text) {
         Some(parts) => Ok(parts),
         None => Err(LogError::BadLine),
     }
@@ -222,8 +222,8 @@ fn end_in(word: &str) -> Result<EndId, LogError>
     Ok(EndId(number_in_logs(word, MAX_END)? as u32))
 }
 
-fn line_in_logs(version: LogVersion, word: &str) -> Result<LineId, LogError>
-    ensures says { IsReadAs LogError.OutOfMemory (λ x. x) result (line_in_logs version word.now) }
+fn line_id_in(version: LogVersion, word: &str) -> Result<LineId, LogError>
+    ensures says { IsReadAs LogError.OutOfMemory (λ x. x) result (line_id_in version word.now) }
     ensures within { IfOk result (λ l. l.0 ≤ max_line version) }
     ensures memory { IfErr result (λ e. e ≢ LogError.OutOfMemory) }
 {

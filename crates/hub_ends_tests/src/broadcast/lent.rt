@@ -70,7 +70,7 @@ fn casts_and_leaves<L: Lends<Roster>, R: Wait>(
     let mut stays = join(rt, alloc, lender, &mut ends)?;
     let mut leaves = join(rt, alloc, lender, &mut ends)?;
     let to_both = casts(rt, alloc, lender, &source)?;
-    leave_in(rt, lender, leaves.end());
+    leave_in(rt, lender, leaves.id());
     let to_one = casts(rt, alloc, lender, &source)?;
     let from_none = casts(rt, alloc, lender, &leaves)?;
     let are_taken = is_first(take(rt, &mut stays), 7, "[1]")
@@ -87,7 +87,7 @@ fn a_roster_that_is_lent_joins_casts_and_leaves(rt: HostRuntime) {
     let mut own = Roster::new(rt.alloc());
     let shared = SharedRoster::new(rt.alloc());
     let is_right = casts_and_leaves(&rt, rt.alloc(), &mut own) == Some(true);
-    let is_alike = casts_and_leaves(&rt, rt.alloc(), &mut shared.lock()) == Some(true);
+    let is_alike = casts_and_leaves(&rt, rt.alloc(), &mut shared.as_locked()) == Some(true);
     drop(own);
     drop(shared);
     assert!(rt; is_right && is_alike);

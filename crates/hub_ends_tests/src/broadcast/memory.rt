@@ -48,7 +48,7 @@ fn are_told<R: Wait>(rt: &R, members: &mut [Member], outcomes: &[(EndId, CastOut
             CastOutcome::OutOfMemory => matches!(took, Took::Empty),
             _ => false,
         };
-        if *end != member.end() || !is_told {
+        if *end != member.id() || !is_told {
             return false;
         }
     }

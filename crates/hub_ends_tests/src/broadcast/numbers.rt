@@ -46,8 +46,8 @@ fn refuses_other_ends<R: Wait>(rt: &R, alloc: Global) -> Option<bool> {
     let third = try_join(alloc, &mut roster, &mut higher)?.ok()?;
     Some(
         are_refused
-            && told == Some(second.end().0)
-            && third.end() == EndId(7)
+            && told == Some(second.id().0)
+            && third.id() == EndId(7)
             && is_refused(alloc, &mut roster, ends.drawn),
     )
 }

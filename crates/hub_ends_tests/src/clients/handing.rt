@@ -21,7 +21,7 @@ fn hands_client<R: Wait>(
     match queue.hand(rt, directory, TO) {
         Ok(()) => Some(Ok(())),
         Err((error, back)) => {
-            let is_same = back.end().0 == drawn;
+            let is_same = back.id().0 == drawn;
             drop(back);
             if is_same { Some(Err(error)) } else { None }
         }

@@ -1,7 +1,7 @@
 //! A listing and a map of one's own, and the same behind a lock: the calls of a directory answer
 //! alike over both. What is told of the end is kept in a list.
 use hub_clients::{
-    Directory, DirectoryError, Handed, HandedQueue, QueueList, close_all, fetch_from, keep_on,
+    Directory, DirectoryError, Handed, HandedQueue, QueueList, close_all, fetch_from, keep_in,
     open_in,
 };
 use hub_depot::{Depot, Kept};
@@ -77,7 +77,7 @@ fn keeps_queues<L: Lends<Kept<Handed>>, R: Wait>(
     lender: &mut L,
 ) -> Option<bool> {
     for end in 0..3 {
-        keep_on(rt, lender, queue(rt, alloc, end)?, AgentId(3)).ok()?;
+        keep_in(rt, lender, queue(rt, alloc, end)?, AgentId(3)).ok()?;
     }
     let strange = fetch_from(rt, lender, EndId(1), AgentId(4));
     let fetched = fetch_from(rt, lender, EndId(1), AgentId(3));
@@ -95,7 +95,7 @@ fn are_closed(told: &[Grave], ends: &[u32]) -> bool {
         return false;
     }
     for (grave, end) in told.iter().zip(ends) {
-        if grave.end().0 != *end {
+        if grave.id().0 != *end {
             return false;
         }
     }
@@ -116,7 +116,7 @@ fn queues_wait_and_the_end_closes_them(rt: HostRuntime) {
     let mut own = Kept::<Handed>::new(rt.alloc());
     let shared = Depot::<Handed>::new(rt.alloc());
     let is_right = keeps_queues(&rt, rt.alloc(), &mut own) == Some(true);
-    let is_alike = keeps_queues(&rt, rt.alloc(), &mut shared.lock()) == Some(true);
+    let is_alike = keeps_queues(&rt, rt.alloc(), &mut shared.as_locked()) == Some(true);
     let are_closed = closes_all(&rt, rt.alloc(), own)
         && closes_all(&rt, rt.alloc(), shared.into_kept());
     assert!(rt; is_right && is_alike && are_closed);

@@ -5,8 +5,8 @@ use hub_depot::{Depot, Kept};
 use hub_envelope::{AgentId, EndId, Envelope, Ports};
 use hub_locked::Lends;
 use hub_ports::{
-    ClosingStep, Closings, Hub, Noticed, Parcel, Port, Spent, arrive_from, close_flight,
-    close_in_order, send_with_ports,
+    ClosingStep, Closings, Hub, Noticed, Parcel, Port, Spent, arrive_from, close_and_tell,
+    close_flight, send_with_ports,
 };
 use hub_queue::{Ends, Head, Mailbox, Onward, Point, Poster, Swept, Taker, Took};
 use hub_test_parts::{bell, body, draft, take};
@@ -80,7 +80,7 @@ fn a_port_in_flight_is_found_once(rt: HostRuntime) {
     let hub = Hub::new(rt.alloc());
     let mut own = Kept::<Port>::new(rt.alloc());
     let is_right = flies(&rt, rt.alloc(), &hub, &mut own) == Some(true);
-    let is_alike = flies(&rt, rt.alloc(), &hub, &mut hub.flight.lock()) == Some(true);
+    let is_alike = flies(&rt, rt.alloc(), &hub, &mut hub.flight.as_locked()) == Some(true);
     drop(own);
     drop(hub);
     assert!(rt; is_right && is_alike);
@@ -97,9 +97,9 @@ fn closes<R: Wait>(rt: &R, alloc: Global, flight: &mut Kept<Port>) -> Option<boo
     let mut emptied = Vec::<Emptied>::new(alloc);
     let is_closed = close_flight(rt, alloc, &yard, None, flight, &mut emptied).is_ok();
     let is_told = matches!(emptied.as_slice(), [(swept, Some((_, Noticed::Put(_))))]
-        if swept.end() == EndId(1));
+        if swept.id() == EndId(1));
     let mut steps = Vec::<ClosingStep>::new(alloc);
-    let closed = close_in_order(rt, alloc, &yard, near, &mut steps);
+    let closed = close_and_tell(rt, alloc, &yard, near, &mut steps);
     let is_in_order = matches!(
         steps.as_slice(),
         [
@@ -162,7 +162,7 @@ fn a_line_goes_on_over_a_yard_that_is_lent(rt: HostRuntime) {
     let mut own = Kept::<Onward>::new(rt.alloc());
     let shared = Depot::<Onward>::new(rt.alloc());
     let is_right = hops(&rt, rt.alloc(), &mut own) == Some(true);
-    let is_alike = hops(&rt, rt.alloc(), &mut shared.lock()) == Some(true);
+    let is_alike = hops(&rt, rt.alloc(), &mut shared.as_locked()) == Some(true);
     drop(own);
     drop(shared);
     assert!(rt; is_right && is_alike);

@@ -22,7 +22,7 @@ loop-subscription-preserved g c =
           let told_len = ap (λ v. vec_len v) w.outcomes-is in
           let told_room = ap (λ v. vec_capacity v) w.outcomes-is in
           record {
-            so_far = posted_step _ _ _ _ _ _ _ low c.subscription-item.is _ _ _ _ _ _ kept.so_far goes last.1 delivered (w.end-end.ensures ∙ ap (λ r. r.poster.name.end) (sym c.subscription-item.is)) w.subscriptions-is (ap (λ v. v.items) w.outcomes-is ∙ w.push_reserved.ensures.items);
+            so_far = posted_step _ _ _ _ _ _ _ low c.subscription-item.is _ _ _ _ _ _ kept.so_far goes last.1 delivered (w.id-end.ensures ∙ ap (λ r. r.poster.name.end) (sym c.subscription-item.is)) w.subscriptions-is (ap (λ v. v.items) w.outcomes-is ∙ w.push_reserved.ensures.items);
             same = subst (λ v. All (λ draft. draft ≡ cast_draft c.args.source.now c.args.body.now) v.items) (sym w.drafts-is) last.0;
             left = left_behind c.args.source.now (cast_draft c.args.source.now c.args.body.now) c.args.subscriptions.now _ _ _ _ low c.subscription-item.is _ _ _ kept.left fewer goes w.subscriptions-is;
             room = omega (arith, kept.room, fewer, told_len, told_room, w.push_reserved.ensures.len, w.push_reserved.ensures.capacity);

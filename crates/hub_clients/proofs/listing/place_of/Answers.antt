@@ -19,5 +19,5 @@ returns-then-eq c =
 pub returns-else-eq : goal.returns-else-eq
 returns-else-eq c =
     let point = IsPartitionPoint-from_clause (λ q. ltb q.end.0 c.args.end.0) c.args.queues.now c.partition_point-place.result c.partition_point-place.ensures.partitioned (IsPartitionedBy-ltb (λ q. q.end.0) c.args.queues.now c.args.end.0 c.requires) (λ a r f' k. search rules) in
-    let other : c.in_ok-queue.queue.now.end ≢ c.args.end = λ same. (let yes = eq-eqb c.end.result.0 c.args.end.0 (λ i. ((c.end.ensures ∙ same) i).0) in cc) in
+    let other : c.in_ok-queue.queue.now.end ≢ c.args.end = λ same. (let yes = eq-eqb c.id.result.0 c.args.end.0 (λ i. ((c.id.ensures ∙ same) i).0) in cc) in
     none_found c.args.queues.now c.args.end c.partition_point-place.result point c.requires c.in_ok-queue.queue.now c.in_ok-queue.ensures.lookup.3.0 c.in_ok-queue.ensures.lookup.1 other

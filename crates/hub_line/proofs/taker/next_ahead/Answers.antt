@@ -8,22 +8,22 @@ use Rattle.hub_line.proofs.taker.next_ahead.Goals as goal
 pub returns-in-Onward-clause-reached : goal.returns-in-Onward-clause-reached
 returns-in-Onward-clause-reached g c =
     let after : received c.pop.new.self ≡ received c.args.rail.now ++ Onward c.in-Onward.over c.in-Onward.next ∷ [] = search rules in
-    let all : given c.items_beside.new.self ++ known c.items_beside.new.self ≡ fed c.in-Onward.over = search rules in
+    let all : given c.count_beside.new.self ++ known c.count_beside.new.self ≡ fed c.in-Onward.over = search rules in
     let empty : given c.in-Onward.next.value ≡ [] = search rules in
-    onward_reached (received c.args.rail.now) (received c.pop.new.self) c.in-Onward.over c.items_beside.new.self c.in-Onward.next after all empty
+    onward_reached (received c.args.rail.now) (received c.pop.new.self) c.in-Onward.over c.count_beside.new.self c.in-Onward.next after all empty
 
 pub returns-in-Onward-clause-same : goal.returns-in-Onward-clause-same
 returns-in-Onward-clause-same g c =
     let after : received c.pop.new.self ≡ received c.args.rail.now ++ Onward c.in-Onward.over c.in-Onward.next ∷ [] = search rules in
-    heard_same (received c.args.rail.now) (received c.pop.new.self) (Onward c.in-Onward.over c.in-Onward.next) (given c.args.source.now) (given c.items_beside.new.self) after (search rules)
+    heard_same (received c.args.rail.now) (received c.pop.new.self) (Onward c.in-Onward.over c.in-Onward.next) (given c.args.source.now) (given c.count_beside.new.self) after (search rules)
 
 pub returns-in-End-clause-reached : goal.returns-in-End-clause-reached
 returns-in-End-clause-reached g c =
     let after : received c.pop.new.self ≡ received c.args.rail.now ++ End c.in-End.over ∷ [] = search rules in
-    let all : given c.items_beside-in-End.new.self ++ known c.items_beside-in-End.new.self ≡ fed c.in-End.over = search rules in
-    end_reached (received c.args.rail.now) (received c.pop.new.self) c.in-End.over c.items_beside-in-End.new.self after all
+    let all : given c.count_beside-in-End.new.self ++ known c.count_beside-in-End.new.self ≡ fed c.in-End.over = search rules in
+    end_reached (received c.args.rail.now) (received c.pop.new.self) c.in-End.over c.count_beside-in-End.new.self after all
 
 pub returns-in-End-clause-same : goal.returns-in-End-clause-same
 returns-in-End-clause-same g c =
     let after : received c.pop.new.self ≡ received c.args.rail.now ++ End c.in-End.over ∷ [] = search rules in
-    heard_same (received c.args.rail.now) (received c.pop.new.self) (End c.in-End.over) (given c.args.source.now) (given c.items_beside-in-End.new.self) after (search rules)
+    heard_same (received c.args.rail.now) (received c.pop.new.self) (End c.in-End.over) (given c.args.source.now) (given c.count_beside-in-End.new.self) after (search rules)

@@ -1,6 +1,6 @@
 use Rattle.std.proofs.Common.{[], ap}
 use Rattle.hub_loop.specs.Ending.{grave_ends}
-use Rattle.hub_loop.specs.declared.closed.ClosedPort.{ClosedPort}
+use Rattle.hub_ports.specs.declared.closing.ClosedPort.{ClosedPort}
 use Rattle.hub_loop.proofs.Endings.{behind-one, notices-one, push-same}
 use Rattle.hub_loop.proofs.sweeping.close_found.Goals as goal
 

@@ -1,4 +1,4 @@
-use Rattle.std.proofs.Common.{refl}
+use Rattle.std.proofs.Common.{refl, rules}
 use Rattle.hub_engine.specs.OutOfMemory.{out_of_memory}
 use Rattle.hub_modes.specs.RunOutput.{IsScriptOutput}
 use Rattle.hub_engine.specs.declared.status.ExitStatus.TheVariants as exit
@@ -7,12 +7,20 @@ use Rattle.hub_engine.proofs.Outputs.{is_told, told}
 use Rattle.hub_engine.proofs.Writing.{says_so, writes_weaker}
 use Rattle.hub_modes.proofs.run.run_file.Goals as goal
 
-pub returns-in-Err-Device-clause-written : goal.returns-in-Err-Device-clause-written
-returns-in-Err-Device-clause-written g c =
+pub returns-in-Err-Device : goal.returns-in-Err-Device
+returns-in-Err-Device g c =
     let known = g.R.Read.remaining c.args.reader.now.reader in
-    (told known, is_told known, (exit.OutOfMemory, out_of_memory, refl, begins_nothing (g.W.Write.contents c.args.writer.now.writer) out_of_memory))
+    record {
+      written = (told known, is_told known, (exit.OutOfMemory, out_of_memory, refl, begins_nothing (g.W.Write.contents c.args.writer.now.writer) out_of_memory));
+      failures = search rules;
+      flushed = tt;
+    }
 
-pub returns-in-Err-OutOfMemory-clause-written : goal.returns-in-Err-OutOfMemory-clause-written
-returns-in-Err-OutOfMemory-clause-written g c =
+pub returns-in-Err-OutOfMemory : goal.returns-in-Err-OutOfMemory
+returns-in-Err-OutOfMemory g c =
     let known = g.R.Read.remaining c.args.reader.now.reader in
-    (told known, is_told known, writes_weaker _ (IsScriptOutput (told known)) _ _ _ (says_so (IsScriptOutput (told known)) exit.OutOfMemory out_of_memory refl) c.end_out_of_memory.ensures.written)
+    record {
+      written = (told known, is_told known, writes_weaker _ (IsScriptOutput (told known)) _ _ _ (says_so (IsScriptOutput (told known)) exit.OutOfMemory out_of_memory refl) c.end_out_of_memory.ensures.written);
+      failures = search rules;
+      flushed = c.end_out_of_memory.ensures.flushed;
+    }

@@ -20,8 +20,8 @@ loop-number-preserved g c =
     elim c.match-take_in.branch [
       | in-Some w ↦ record {
         split = next-found c.args.numbers.now c.loop-number.number-index _ c.loop-number.found.items _ c.loop-number.missing.items _ w.in-Some.port c.loop-number-test.true
-            (w.in-Some.ensures.named ∙ c.place.ensures) (ap (λ v. v.items) w.found-is ∙ w.push_reserved.ensures.items) (ap (λ v. v.items) w.missing-is) kept.split;
-        arrived = next_arrived (g.L.Lends.shown c.args.flight.now) (g.L.Lends.shown c.loop-number.flight) (g.L.Lends.shown c.take_in.new.lender) c.args.numbers.now c.loop-number.number-index _ c.place.result (Some w.in-Some.port) c.loop-number.found.items c.match-take_in.found.items c.loop-number.missing.items c.match-take_in.missing.items c.loop-number-test.true kept.arrived c.place.ensures w.in-Some.ensures.value w.in-Some.ensures.rest
+            (w.in-Some.ensures.named ∙ c.flight_key.ensures) (ap (λ v. v.items) w.found-is ∙ w.push_reserved.ensures.items) (ap (λ v. v.items) w.missing-is) kept.split;
+        arrived = next_arrived (g.L.Lends.shown c.args.flight.now) (g.L.Lends.shown c.loop-number.flight) (g.L.Lends.shown c.take_in.new.lender) c.args.numbers.now c.loop-number.number-index _ c.flight_key.result (Some w.in-Some.port) c.loop-number.found.items c.match-take_in.found.items c.loop-number.missing.items c.match-take_in.missing.items c.loop-number-test.true kept.arrived c.flight_key.ensures w.in-Some.ensures.value w.in-Some.ensures.rest
             (ap (λ v. v.items) w.found-is ∙ w.push_reserved.ensures.items) (ap (λ v. v.items) w.missing-is ∙ sym (append-nil _));
         count = omega (arith, ap vec_len w.found-is, ap vec_len w.missing-is, w.push_reserved.ensures.len, kept.count);
         found_room = omega (arith, ap vec_capacity w.found-is, w.push_reserved.ensures.capacity, kept.found_room);
@@ -30,7 +30,7 @@ loop-number-preserved g c =
       | in-None w ↦ record {
         split = next-missing c.args.numbers.now c.loop-number.number-index _ c.loop-number.found.items _ c.loop-number.missing.items _ c.loop-number-test.true
             (ap (λ v. v.items) w.found-is) (ap (λ v. v.items) w.missing-is ∙ w.push_reserved-in-None.ensures.items) kept.split;
-        arrived = next_arrived (g.L.Lends.shown c.args.flight.now) (g.L.Lends.shown c.loop-number.flight) (g.L.Lends.shown c.take_in.new.lender) c.args.numbers.now c.loop-number.number-index _ c.place.result None c.loop-number.found.items c.match-take_in.found.items c.loop-number.missing.items c.match-take_in.missing.items c.loop-number-test.true kept.arrived c.place.ensures w.in-None.ensures.value w.in-None.ensures.rest
+        arrived = next_arrived (g.L.Lends.shown c.args.flight.now) (g.L.Lends.shown c.loop-number.flight) (g.L.Lends.shown c.take_in.new.lender) c.args.numbers.now c.loop-number.number-index _ c.flight_key.result None c.loop-number.found.items c.match-take_in.found.items c.loop-number.missing.items c.match-take_in.missing.items c.loop-number-test.true kept.arrived c.flight_key.ensures w.in-None.ensures.value w.in-None.ensures.rest
             (ap (λ v. v.items) w.found-is ∙ sym (append-nil _)) (ap (λ v. v.items) w.missing-is ∙ w.push_reserved-in-None.ensures.items);
         count = omega (arith, ap vec_len w.found-is, ap vec_len w.missing-is, w.push_reserved-in-None.ensures.len, kept.count);
         found_room = omega (arith, ap vec_capacity w.found-is, kept.found_room);

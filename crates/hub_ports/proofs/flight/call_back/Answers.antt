@@ -19,9 +19,9 @@ loop-index-preserved g c =
     elim c.match-take_in.branch [
       | in-Some w ↦ record {
         split = next-found c.args.numbers.now c.loop-index.index _ c.loop-index.ports.items _ c.loop-index.missing.items _ w.in-Some.port c.loop-index-test.true
-            (w.in-Some.ensures.named ∙ c.place.ensures) (ap (λ v. v.items) w.ports-is ∙ w.push_reserved.ensures.items) (ap (λ v. v.items) w.missing-is) kept.split;
-        back = λ k sent now free named. one_back k sent c.args.ports.now.items c.args.numbers.now c.loop-index.index _ (g.L.Lends.shown c.loop-index.flight) (g.L.Lends.shown c.take_in.new.lender) c.loop-index.ports.items c.match-take_in.ports.items c.loop-index.missing.items c.match-take_in.missing.items w.in-Some.port c.place.result c.loop-index-test.true
-            (kept.back k sent now free named) c.place.ensures w.in-Some.ensures.value w.in-Some.ensures.rest (ap (λ v. v.items) w.ports-is ∙ w.push_reserved.ensures.items) (ap (λ v. v.items) w.missing-is);
+            (w.in-Some.ensures.named ∙ c.flight_key.ensures) (ap (λ v. v.items) w.ports-is ∙ w.push_reserved.ensures.items) (ap (λ v. v.items) w.missing-is) kept.split;
+        back = λ k sent now free named. one_back k sent c.args.ports.now.items c.args.numbers.now c.loop-index.index _ (g.L.Lends.shown c.loop-index.flight) (g.L.Lends.shown c.take_in.new.lender) c.loop-index.ports.items c.match-take_in.ports.items c.loop-index.missing.items c.match-take_in.missing.items w.in-Some.port c.flight_key.result c.loop-index-test.true
+            (kept.back k sent now free named) c.flight_key.ensures w.in-Some.ensures.value w.in-Some.ensures.rest (ap (λ v. v.items) w.ports-is ∙ w.push_reserved.ensures.items) (ap (λ v. v.items) w.missing-is);
         count = omega (arith, ap vec_len w.ports-is, ap vec_len w.missing-is, w.push_reserved.ensures.len, kept.count);
         ports_room = omega (arith, ap vec_capacity w.ports-is, w.push_reserved.ensures.capacity, kept.ports_room);
         missing_room = omega (arith, ap vec_capacity w.missing-is, kept.missing_room);
@@ -29,8 +29,8 @@ loop-index-preserved g c =
       | in-None w ↦ record {
         split = next-missing c.args.numbers.now c.loop-index.index _ c.loop-index.ports.items _ c.loop-index.missing.items _ c.loop-index-test.true
             (ap (λ v. v.items) w.ports-is) (ap (λ v. v.items) w.missing-is ∙ w.push_reserved-in-None.ensures.items) kept.split;
-        back = λ k sent now free named. absurd (none_missing k sent c.args.ports.now.items c.args.numbers.now c.loop-index.index _ (g.L.Lends.shown c.loop-index.flight) (g.L.Lends.shown c.take_in.new.lender) c.loop-index.ports.items c.loop-index.missing.items c.place.result c.loop-index-test.true
-            (kept.back k sent now free named) c.place.ensures w.in-None.ensures.value w.in-None.ensures.rest);
+        back = λ k sent now free named. absurd (none_missing k sent c.args.ports.now.items c.args.numbers.now c.loop-index.index _ (g.L.Lends.shown c.loop-index.flight) (g.L.Lends.shown c.take_in.new.lender) c.loop-index.ports.items c.loop-index.missing.items c.flight_key.result c.loop-index-test.true
+            (kept.back k sent now free named) c.flight_key.ensures w.in-None.ensures.value w.in-None.ensures.rest);
         count = omega (arith, ap vec_len w.ports-is, ap vec_len w.missing-is, w.push_reserved-in-None.ensures.len, kept.count);
         ports_room = omega (arith, ap vec_capacity w.ports-is, kept.ports_room);
         missing_room = omega (arith, ap vec_capacity w.missing-is, w.push_reserved-in-None.ensures.capacity, kept.missing_room);

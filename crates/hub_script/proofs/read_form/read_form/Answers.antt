@@ -2,7 +2,7 @@ use Rattle.std.proofs.Common.{◌≡◌, true, sym, ap, subst, inr, ◌∙◌}
 use Rattle.std.specs.Str.{is_utf8}
 use Rattle.hub_text.specs.Reading.{IsReadAs}
 use Rattle.hub_script.specs.declared.error.ScriptError.TheVariants.{OutOfMemory}
-use Rattle.hub_script.specs.Form.{text_form}
+use Rattle.hub_script.specs.Form.{form_in_text}
 use Rattle.hub_script.proofs.LineTexts.{form_of_text, not_utf8, on_error, on_value, valid}
 use Rattle.hub_script.proofs.read_form.read_form.Goals as goal
 
@@ -11,10 +11,10 @@ returns-in_default-clause-says c = inr (not_utf8 c.args.bytes.now c.in_default.e
 
 pub returns-clause-says : goal.returns-clause-says
 returns-clause-says c =
-    subst (IsReadAs OutOfMemory (λ x. x) c.text_form.result) (ap text_form c.in-Ok.ensures.cases.0 ∙ sym (form_of_text c.args.bytes.now c.in-Ok.ensures.cases.1)) c.text_form.ensures
+    subst (IsReadAs OutOfMemory (λ x. x) c.form_in_text.result) (ap form_in_text c.in-Ok.ensures.cases.0 ∙ sym (form_of_text c.args.bytes.now c.in-Ok.ensures.cases.1)) c.form_in_text.ensures
 
 pub returns-clause-memory : goal.returns-clause-memory
-returns-clause-memory c = on_error c.text_form.result OutOfMemory (is_utf8 c.args.bytes.now ≡ true) (valid c.args.bytes.now c.in-Ok.ensures.cases.1)
+returns-clause-memory c = on_error c.form_in_text.result OutOfMemory (is_utf8 c.args.bytes.now ≡ true) (valid c.args.bytes.now c.in-Ok.ensures.cases.1)
 
 pub returns-clause-utf8 : goal.returns-clause-utf8
-returns-clause-utf8 c = on_value c.text_form.result (is_utf8 c.args.bytes.now ≡ true) (valid c.args.bytes.now c.in-Ok.ensures.cases.1)
+returns-clause-utf8 c = on_value c.form_in_text.result (is_utf8 c.args.bytes.now ≡ true) (valid c.args.bytes.now c.in-Ok.ensures.cases.1)

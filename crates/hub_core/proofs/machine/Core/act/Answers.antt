@@ -23,7 +23,7 @@ pub returns-in-Cast : goal.returns-in-Cast
 returns-in-Cast c = told_or c.args.step (action.Cast c.in-Cast.end c.in-Cast.ports c.in-Cast.body) _ _ _ c.in-Cast.is refl c.cast.ensures (same_content _ _) (λ o p. took_where _ _ c.args.self.now _ _ p.1 (λ f s. p.0 ∙ cast_fits c.in-Cast.end c.in-Cast.ports s) (λ f. cast_changes c.in-Cast.end c.in-Cast.ports c.in-Cast.body _))
 
 pub returns-in-Part : goal.returns-in-Part
-returns-in-Part c = told c.args.step (action.Part c.in-Part.end) _ _ _ c.in-Part.is (part_took c.in-Part.end c.args.step.memory_refused _ _ _ c.part.ensures.0 c.part.ensures.1 c.part.ensures.2)
+returns-in-Part c = told c.args.step (action.Part c.in-Part.end) _ _ _ c.in-Part.is (part_took c.in-Part.end c.args.step.memory_refused _ _ _ c.leave_roster.ensures.0 c.leave_roster.ensures.1 c.leave_roster.ensures.2)
 
 pub returns-in-Leave : goal.returns-in-Leave
 returns-in-Leave c = told c.args.step (action.Leave c.in-Leave.sender) _ _ _ c.in-Leave.is (took_where _ _ c.args.self.now _ _ c.leave.ensures.1 (λ f s. c.leave.ensures.0 ∙ ap (λ g. leave_answer g c.in-Leave.sender) (seen_is s)) (λ f. leave_changes c.in-Leave.sender _))

@@ -29,7 +29,7 @@ invariant_of-self-in_default c =
       reached = all-but old.held c.insert_reserved-key.new.self old.ready old.ready key
           c.insert_reserved-key.ensures.updates.others
           (λ other differs. moves-same old.ready other)
-          (λ held is. is-line old.ready key held c.args.held bit (search rules) (λ end has. c.in_default.not-Some end (c.as_end-end.ensures ∙ has)))
+          (λ held is. is-line old.ready key held c.args.held bit (search rules) (λ end has. c.in_default.not-Some end (c.end_id-end.ensures ∙ has)))
           old.reached;
     }
 
@@ -56,6 +56,6 @@ returns-in_default-clause-marks c =
           (same-marks key old.ready.marks)
           (λ held end is number.
           let same : held ≡ c.args.held = search rules in
-          absurd (c.in_default.not-Some end (c.as_end-end.ensures ∙ sym (ap end_held same) ∙ number)));
+          absurd (c.in_default.not-Some end (c.end_id-end.ensures ∙ sym (ap end_held same) ∙ number)));
       next = refl;
     }

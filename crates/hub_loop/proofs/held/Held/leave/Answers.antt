@@ -8,4 +8,4 @@ pub returns-in-Member : goal.returns-in-Member
 returns-in-Member g c =
     let was = g.L.Lends.shown c.args.roster.now in
     subst (λ held. g.L.Lends.shown c.leave_in.new.lender ≡ left_by held was) (sym c.in-Member.is)
-    (c.leave_in.ensures ∙ ap (λ end. option_map (filter (λ s. not (is_of_end (record { 0 = end }) s))) was) c.end.ensures)
+    (c.leave_in.ensures ∙ ap (λ end. option_map (filter (λ s. not (is_of_end (record { 0 = end }) s))) was) c.id.ensures)

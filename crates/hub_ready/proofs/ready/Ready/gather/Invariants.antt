@@ -1,7 +1,7 @@
 use Rattle.std.proofs.Common.{◌≡◌, ◌<◌, ◌+◌, ◌*◌, ℕ, List}
 use Rattle.std.specs.Int.{bit_at}
 use Rattle.hub_bell.specs.declared.board.BoardStep.{BoardStep}
-use Rattle.hub_ready.specs.Finding.{KeepsMarks, FindsBetween, HasStepped, MarksFound}
+use Rattle.hub_ready.specs.Finding.{KeepsMarks, EmptiesBetween, EmptiesNamed, FindsBetween, HasStepped, MarksFound, MarksTaken}
 use Rattle.hub_ready.proofs.ready.Ready.gather.Given as goal
 
 abbrev pub invariant-groups : goal.invariant-groups
@@ -10,6 +10,8 @@ invariant-groups l = record {
   keeps : KeepsMarks l.fn.self.marks l.self.marks;
   found : (steps : List BoardStep) × HasStepped l.initial.listener l.listener steps × ((group : ℕ) → group < 64 → bit_at l.names group ≡ 1 → (bit_at l.left group ≡ 1 → ⊥) → FindsBetween (16 * group) (16 * group + 16) l.self.listed.items l.self.marks steps);
   only : (steps : List BoardStep) × HasStepped l.initial.listener l.listener steps × MarksFound l.fn.self.listed.items l.fn.self.marks l.self.marks steps;
+  marked : (steps : List BoardStep) × HasStepped l.initial.listener l.listener steps × MarksTaken l.self.listed.items l.self.marks steps;
+  emptied : (steps : List BoardStep) × HasStepped l.initial.listener l.listener steps × ((group : ℕ) → group < 64 → bit_at l.names group ≡ 1 → (bit_at l.left group ≡ 1 → ⊥) → EmptiesBetween (16 * group) (16 * group + 16) steps) × EmptiesNamed steps;
 }
 
 abbrev pub decreases-groups : goal.decreases-groups

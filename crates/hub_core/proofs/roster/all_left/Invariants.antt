@@ -1,6 +1,0 @@
-use Rattle.std.proofs.Common.{◌≡◌, take}
-use Rattle.hub_core.proofs.roster.all_left.Given as goal
-
--- the ends so far are in the list
-abbrev pub invariant-loop-end : goal.invariant-loop-end
-invariant-loop-end l = l.left.items ≡ take l.end-index l.ends
