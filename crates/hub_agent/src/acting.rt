@@ -15,7 +15,7 @@ ghost use Rattle.hub_trace.specs.declared.log_entry.LogEntry.{LogEntry};
 use crate::actor::{Acted, Actor, act_all};
 use crate::agent::Agent;
 use crate::logging::log_closed_end;
-use crate::shared::{Peer, Shared, order_all};
+use crate::shared::{Peer, Shared, order_all_to_stop};
 use hub_broadcast::Roster;
 use hub_clients::{Directory, HandError};
 use hub_envelope::{AgentId, EndId, OutOfMemory};
@@ -37,7 +37,7 @@ pub(crate) enum Awaited {
 }
 
 /// The error of a hand that was refused for want of memory.
-fn want_of(error: HandError) -> Option<OutOfMemory> {
+fn as_out_of_memory(error: HandError) -> Option<OutOfMemory> {
     match error {
         HandError::OutOfMemory => Some(OutOfMemory),
         HandError::Taken => None,
@@ -57,18 +57,18 @@ fn hand_over<R: Wait>(
     match held {
         Held::Client(queue) => match queue.hand(rt, directory, to) {
             Ok(()) => Ok(()),
-            Err((error, queue)) => Err((want_of(error), Held::Client(queue))),
+            Err((error, queue)) => Err((as_out_of_memory(error), Held::Client(queue))),
         },
         Held::Worker(queue) => match queue.hand(rt, directory, to) {
             Ok(()) => Ok(()),
-            Err((error, queue)) => Err((want_of(error), Held::Worker(queue))),
+            Err((error, queue)) => Err((as_out_of_memory(error), Held::Worker(queue))),
         },
         held => Err((None, held)),
     }
 }
 
 /// An event of the life of a worker, which refuses what its state doesn't allow.
-fn live(life: &mut Option<Life>, event: Event)
+fn apply_life_event(life: &mut Option<Life>, event: Event)
     ensures { life.new ≡ option_map (λ p. lived p event) life.old }
 {
     if let Some(life) = life {
@@ -77,15 +77,15 @@ fn live(life: &mut Option<Life>, event: Event)
 }
 
 /// Gives an agent the order to end.
-fn give_order(peers: &mut Vec<Peer>, to: AgentId)
+fn order_agent_to_stop(peers: &mut Vec<Peer>, to: AgentId)
     ensures { peers.new.items ≡ with_peer peer_ordered to.0 peers.old.items }
 {
     if let Some(peer) = peers.get_mut(usize::from(to.0)) {
-        peer.order();
+        peer.order_to_stop();
     }
 }
 
-fn wake(peers: &mut Vec<Peer>, agent: AgentId)
+fn wake_agent(peers: &mut Vec<Peer>, agent: AgentId)
     ensures { peers.new.items ≡ with_peer woken agent.0 peers.old.items }
 {
     if let Some(peer) = peers.get_mut(usize::from(agent.0)) {
@@ -96,7 +96,7 @@ fn wake(peers: &mut Vec<Peer>, agent: AgentId)
 impl<'s, C: Checkpoint, K: Lends<Roster> + Drop> Agent<'s, C, K> {
     /// Does its actions. Where memory runs out all agents are ordered to end, so that none waits
     /// for this one.
-    pub(crate) fn act_or_order<R: Wait>(
+    pub(crate) fn run_all_actions<R: Wait>(
         &mut self,
         rt: &R,
         script: &Script,
@@ -104,18 +104,18 @@ impl<'s, C: Checkpoint, K: Lends<Roster> + Drop> Agent<'s, C, K> {
         ensures { IfOk result (λ acted. ActsFirst acted
             (actions_of self.old.notes.log.0 (actions script.now)) self.old self.new) }
     {
-        let number = self.scribe.agent();
+        let number = self.scribe.agent_id();
         match act_all(self, rt, script, number) {
             Ok(acted) => Ok(acted),
             Err(error) => {
-                order_all(&mut self.peers);
+                order_all_to_stop(&mut self.peers);
                 Err(error)
             }
         }
     }
 
     /// Enables a port or a client's queue.
-    fn start(&mut self, end: EndId)
+    fn start_port_or_queue(&mut self, end: EndId)
         ensures { StartsEnd end self.old self.new }
     {
         if !self.event_loop.start_port(end) {
@@ -125,7 +125,7 @@ impl<'s, C: Checkpoint, K: Lends<Roster> + Drop> Agent<'s, C, K> {
 
     /// Closes a port or a member, and logs it. What waits there is discarded once the loop has
     /// ended.
-    fn close<R: Wait>(&mut self, rt: &R, end: EndId) -> Result<(), OutOfMemory>
+    fn close_port_or_member<R: Wait>(&mut self, rt: &R, end: EndId) -> Result<(), OutOfMemory>
         ensures written { OnOk result ((entries : List LogEntry) × IsCloseLogged end entries
             × WritesEntries entries self.old.notes self.new.notes) }
         ensures held { OnOk result (ClosesOwn end self.old self.new) }
@@ -143,17 +143,17 @@ impl<'s, C: Checkpoint, K: Lends<Roster> + Drop> Agent<'s, C, K> {
 
     /// Hands its own queue to an agent, which it wakes. Where it wasn't handed it holds the queue
     /// again. The queues of the agents are the first ends, in the order of the agents.
-    fn hand<R: Wait>(&mut self, rt: &R, to: AgentId) -> Result<(), OutOfMemory>
+    fn hand_over_own_queue<R: Wait>(&mut self, rt: &R, to: AgentId) -> Result<(), OutOfMemory>
         ensures changes { OnOk result (Changes (Hand to) self.old self.new) }
         ensures held { OnOk result (HoldsNoMore self.old self.new) }
     {
-        let queue = EndId(u32::from(self.scribe.agent().0));
+        let queue = EndId(u32::from(self.scribe.agent_id().0));
         let Some(held) = self.event_loop.release(queue) else {
             return Ok(());
         };
         match hand_over(rt, &self.shared.directory, held, to) {
             Ok(()) => {
-                wake(&mut self.peers, to);
+                wake_agent(&mut self.peers, to);
                 Ok(())
             }
             Err((refused, held)) => {
@@ -175,7 +175,7 @@ impl<'s, C: Checkpoint, K: Lends<Roster> + Drop> Actor for Agent<'s, C, K> {
 
     ghost fails = { λ _ _ _. ⊤ };
 
-    fn sees_order(&mut self) -> bool {
+    fn is_ordered_to_stop(&mut self) -> bool {
         self.order.seen()
     }
 
@@ -193,7 +193,7 @@ impl<'s, C: Checkpoint, K: Lends<Roster> + Drop> Actor for Agent<'s, C, K> {
             } => self.send(rt, *queue, body, transfer),
             ActionKind::Cast { member, body } => self.cast(rt, *member, body),
             ActionKind::Start { end } => {
-                self.start(*end);
+                self.start_port_or_queue(*end);
                 Ok(())
             }
             // The document of a client is parsed, which enables its queue.
@@ -201,23 +201,23 @@ impl<'s, C: Checkpoint, K: Lends<Roster> + Drop> Actor for Agent<'s, C, K> {
                 self.event_loop.start_client(*queue);
                 Ok(())
             }
-            ActionKind::Close { end } => self.close(rt, *end),
+            ActionKind::Close { end } => self.close_port_or_member(rt, *end),
             ActionKind::Wait { messages } => {
-                let after = self.scribe.messages();
+                let after = self.scribe.delivered_message_count();
                 let count = *messages;
-                self.turn_until(rt, Awaited::Messages { after, count })
+                self.turn_until_awaited(rt, Awaited::Messages { after, count })
             }
-            ActionKind::Receive { port } => self.turn_until(rt, Awaited::Port(*port)),
+            ActionKind::Receive { port } => self.turn_until_awaited(rt, Awaited::Port(*port)),
             ActionKind::Order { to } => {
-                give_order(&mut self.peers, *to);
+                order_agent_to_stop(&mut self.peers, *to);
                 Ok(())
             }
             ActionKind::Event { event } => {
-                live(&mut self.life, *event);
+                apply_life_event(&mut self.life, *event);
                 Ok(())
             }
-            ActionKind::Hand { to } => self.hand(rt, *to),
-            ActionKind::Fetch { queue } => self.turn_until(rt, Awaited::Queue(*queue)),
+            ActionKind::Hand { to } => self.hand_over_own_queue(rt, *to),
+            ActionKind::Fetch { queue } => self.turn_until_awaited(rt, Awaited::Queue(*queue)),
         }
     }
 }

@@ -23,7 +23,7 @@ pub trait Actor {
     ghost fails: { Self → Kind → Self → Type 0 };
 
     /// Looks for the order to end. Whether it has come.
-    fn sees_order(&mut self) -> bool
+    fn is_ordered_to_stop(&mut self) -> bool
         ensures { looks self.old result self.new };
 
     /// Does an action.
@@ -61,7 +61,7 @@ pub fn act_all<A: Actor, R: Wait>(
     let mut done = 0;
     for Action { at, kind } in script.actions() {
         if *at == agent {
-            if actor.sees_order() {
+            if actor.is_ordered_to_stop() {
                 let ordered = true;
                 return Ok(Acted { done, ordered });
             }

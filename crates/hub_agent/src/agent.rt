@@ -19,8 +19,8 @@ ghost use Rattle.hub_trace.specs.declared.log_entry.LogEntry.{LogEntry};
 use crate::acting::Awaited;
 use crate::actor::Acted;
 use crate::ending::finish_loop;
-use crate::logging::{epoch_of, log_adopted};
-use crate::shared::{Peer, Shared, order_all};
+use crate::logging::{log_adopted, move_count};
+use crate::shared::{Peer, Shared, order_all_to_stop};
 use hub_broadcast::Roster;
 use hub_envelope::{AgentId, EndId, OutOfMemory};
 use hub_life::{Life, Order};
@@ -121,7 +121,7 @@ fn log_all_adopted<C: Checkpoint>(
         × WritesEntries entries scribe.old scribe.new) }
 {
     for end in ends {
-        log_adopted(scribe, *end, epoch_of(event_loop.held(*end)))?;
+        log_adopted(scribe, *end, move_count(event_loop.held_end(*end)))?;
     }
     Ok(())
 }
@@ -141,8 +141,8 @@ impl<'s, C: Checkpoint, K: Lends<Roster> + Drop> Agent<'s, C, K> {
         ensures { IfOk result (λ ran. IsRunFor script.now number ran.log ran.acted) }
     {
         self.scribe = Scribe::new(self.alloc, number);
-        let acted = self.act_or_order(rt, script);
-        let finished = self.finish(rt);
+        let acted = self.run_all_actions(rt, script);
+        let finished = self.finish_into_log(rt);
         Ok(AgentRun {
             acted: acted?,
             log: finished?,
@@ -150,7 +150,7 @@ impl<'s, C: Checkpoint, K: Lends<Roster> + Drop> Agent<'s, C, K> {
     }
 
     /// Ends the loop, and answers the log. Where memory runs out all agents are ordered to end.
-    fn finish<R: Wait>(self, rt: &R) -> Result<Log, OutOfMemory>
+    fn finish_into_log<R: Wait>(self, rt: &R) -> Result<Log, OutOfMemory>
         ensures written { IfOk result (λ log. (entries : List LogEntry) × AreEndings entries
             × (log ≡ log_and self.entry.notes.log entries)) }
         ensures own { IfOk result (λ log. (e : ℕ) →
@@ -171,7 +171,7 @@ impl<'s, C: Checkpoint, K: Lends<Roster> + Drop> Agent<'s, C, K> {
         match finish_loop(alloc, rt, shared, &mut roster, event_loop, scribe, graves) {
             Ok(log) => Ok(log),
             Err(error) => {
-                order_all(&mut peers);
+                order_all_to_stop(&mut peers);
                 Err(error)
             }
         }
@@ -181,11 +181,11 @@ impl<'s, C: Checkpoint, K: Lends<Roster> + Drop> Agent<'s, C, K> {
     pub(crate) fn holds_port(&self, end: EndId) -> bool
         ensures { result ≡ true → HoldsPortInLoop self.now end }
     {
-        matches!(self.event_loop.held(end), Some(Held::Port(_)))
+        matches!(self.event_loop.held_end(end), Some(Held::Port(_)))
     }
 
     /// Logs that it has adopted the ports that came with the last delivery.
-    fn log_last_adopted(&mut self) -> Result<(), OutOfMemory>
+    fn log_newly_adopted(&mut self) -> Result<(), OutOfMemory>
         ensures written { OnOk result ((entries : List LogEntry)
             × AreAdoptions self.old.notes.adopted entries
             × WritesEntries entries self.old.notes self.new.notes) }
@@ -195,14 +195,14 @@ impl<'s, C: Checkpoint, K: Lends<Roster> + Drop> Agent<'s, C, K> {
         log_all_adopted(&mut self.scribe, &self.event_loop, &adopted)
     }
 
-    fn turn_counted<L: Ledger, R: Wait>(&mut self, rt: &R, blank: Blank) -> Result<Turn, LoopError>
+    fn turn_counting<L: Ledger, R: Wait>(&mut self, rt: &R, blank: Blank) -> Result<Turn, LoopError>
         requires { (blank.name ≡ L.name) × (blank.parts ≡ L.parts) × (L.parts ≡ 2) }
         ensures left { IfOk result (λ turn. TurnLeaves turn self.old.notes self.new.notes) }
         ensures brings { IfOk result (λ turn. TurnBrings turn self.old self.new) }
         ensures rest { KeepsButTurns self.old self.new }
     {
-        let mut steps = Steps::<L>::begin(blank);
-        let scribe = self.scribe.take();
+        let mut steps = Steps::<L>::new_at_zero(blank);
+        let scribe = self.scribe.take_leaving_empty();
         let empty = self.event_loop.replace_handler(scribe);
         let turn = self.event_loop.turn(rt, &self.shared.hub, &mut steps);
         self.scribe = self.event_loop.replace_handler(empty);
@@ -216,13 +216,13 @@ impl<'s, C: Checkpoint, K: Lends<Roster> + Drop> Agent<'s, C, K> {
         ensures own { OnOk result (Accounts self.old self.new) }
         ensures rest { KeepsButTurns self.old self.new }
     {
-        let turn = match self.turn_counted::<Brand, R>(rt, Blank::new(2)) {
+        let turn = match self.turn_counting::<Brand, R>(rt, Blank::new(2)) {
             Ok(turn) => turn,
             Err(LoopError::OutOfMemory) => return Err(OutOfMemory),
         };
         match turn {
             Turn::Delivered => {
-                self.log_last_adopted()?;
+                self.log_newly_adopted()?;
                 Ok(Turn::Delivered)
             }
             turn => Ok(turn),
@@ -231,7 +231,7 @@ impl<'s, C: Checkpoint, K: Lends<Roster> + Drop> Agent<'s, C, K> {
 
     /// Takes the queue that was handed to it, logs that and enables the queue. Whether it was
     /// there.
-    fn fetch<R: Wait>(&mut self, rt: &R, end: EndId) -> Result<bool, OutOfMemory>
+    fn fetch_handed_queue<R: Wait>(&mut self, rt: &R, end: EndId) -> Result<bool, OutOfMemory>
         ensures written { IfOk result (λ came. (entries : List LogEntry)
             × IsComeLogged (Awaited.Queue end) came entries
             × WritesEntries entries self.old.notes self.new.notes) }
@@ -244,13 +244,17 @@ impl<'s, C: Checkpoint, K: Lends<Roster> + Drop> Agent<'s, C, K> {
             Ok(false) => return Ok(false),
             Err(LoopError::OutOfMemory) => return Err(OutOfMemory),
         }
-        log_adopted(&mut self.scribe, end, epoch_of(self.event_loop.held(end)))?;
+        log_adopted(
+            &mut self.scribe,
+            end,
+            move_count(self.event_loop.held_end(end)),
+        )?;
         self.event_loop.start_client(end);
         Ok(true)
     }
 
     /// Whether what it waits for has come.
-    fn has_come<R: Wait>(&mut self, rt: &R, awaited: Awaited) -> Result<bool, OutOfMemory>
+    fn has_arrived<R: Wait>(&mut self, rt: &R, awaited: Awaited) -> Result<bool, OutOfMemory>
         ensures written { IfOk result (λ came. (entries : List LogEntry)
             × IsComeLogged awaited came entries
             × WritesEntries entries self.old.notes self.new.notes) }
@@ -259,17 +263,17 @@ impl<'s, C: Checkpoint, K: Lends<Roster> + Drop> Agent<'s, C, K> {
     {
         match awaited {
             Awaited::Messages { after, count } => {
-                let delivered = self.scribe.messages().wrapping_sub(after);
+                let delivered = self.scribe.delivered_message_count().wrapping_sub(after);
                 Ok(delivered >= u64::from(count))
             }
             Awaited::Port(end) => Ok(self.holds_port(end)),
-            Awaited::Queue(end) => self.fetch(rt, end),
+            Awaited::Queue(end) => self.fetch_handed_queue(rt, end),
         }
     }
 
     /// Takes turns, and rests after each, until what it waits for has come or the order to end was
     /// given.
-    pub(crate) fn turn_until<R: Wait>(
+    pub(crate) fn turn_until_awaited<R: Wait>(
         &mut self,
         rt: &R,
         awaited: Awaited,
@@ -280,7 +284,7 @@ impl<'s, C: Checkpoint, K: Lends<Roster> + Drop> Agent<'s, C, K> {
         ensures rest { KeepsButTurns self.old self.new }
     {
         for _ in rt.forever() {
-            if self.has_come(rt, awaited)? {
+            if self.has_arrived(rt, awaited)? {
                 return Ok(());
             }
             match self.turn(rt)? {

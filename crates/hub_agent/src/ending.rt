@@ -39,10 +39,10 @@ fn end_loop<C: Checkpoint, K: Lends<Roster>, R: Wait>(
 }
 
 /// Discards what waits at ends that were closed. Ports that are named there stay in flight.
-fn sweep_all<R: Wait>(rt: &R, graves: Vec<Grave>) -> Result<(), OutOfMemory> {
+fn discard_waiting_messages<R: Wait>(rt: &R, graves: Vec<Grave>) -> Result<(), OutOfMemory> {
     let mut swept = Ok(());
     for grave in graves {
-        if grave.sweep_out(rt).is_err() {
+        if grave.sweep_until_empty(rt).is_err() {
             swept = Err(OutOfMemory);
         }
     }
@@ -50,7 +50,7 @@ fn sweep_all<R: Wait>(rt: &R, graves: Vec<Grave>) -> Result<(), OutOfMemory> {
 }
 
 /// The notices that were put, by the ports that were closed.
-fn notices_of(
+fn notices_by_closed_port(
     alloc: Global,
     closed: &[ClosedPort],
 ) -> Result<BTreeMap<EndId, Posted>, OutOfMemory> {
@@ -68,7 +68,7 @@ fn notices_of(
 }
 
 /// The ends of the list, each once.
-fn set_of(alloc: Global, ends: &[EndId]) -> Result<BTreeSet<EndId>, OutOfMemory>
+fn set_of_ends(alloc: Global, ends: &[EndId]) -> Result<BTreeSet<EndId>, OutOfMemory>
     ensures { IfOk result (λ set. (e : ℕ) → times e set.keys ≤ times e ends.now) }
 {
     let mut set = BTreeSet::new(alloc);
@@ -80,7 +80,7 @@ fn set_of(alloc: Global, ends: &[EndId]) -> Result<BTreeSet<EndId>, OutOfMemory>
 
 /// Logs what was closed when the loop ended: for each end that was swept the notice, where it was
 /// put, and the closing, where the loop held the end; then the other notices.
-fn log_ended(
+fn log_all_closed(
     alloc: Global,
     scribe: &mut Scribe,
     held: &[EndId],
@@ -91,8 +91,8 @@ fn log_ended(
     ensures own { OnOk result ((e : ℕ) →
         lost e scribe.new.log.1 ≤ lost e scribe.old.log.1 + times e held.now) }
 {
-    let mut left = set_of(alloc, held)?;
-    let mut notices = notices_of(alloc, &ended.noticed)?;
+    let mut left = set_of_ends(alloc, held)?;
+    let mut notices = notices_by_closed_port(alloc, &ended.noticed)?;
     for swept in &ended.swept {
         let end = swept.id();
         let notice = notices.remove(&end);
@@ -140,10 +140,10 @@ pub(crate) fn finish_loop<C: Checkpoint, K: Lends<Roster>, R: Wait>(
     ensures own { IfOk result (λ log. (e : ℕ) →
         lost e log.1 ≤ lost e scribe.log.1 + times_held event_loop.entry.holding.ends.held e) }
 {
-    let held = event_loop.ends();
+    let held = event_loop.end_numbers();
     let ended = end_loop(rt, shared, roster, event_loop);
-    let swept = sweep_all(rt, graves);
-    log_ended(alloc, &mut scribe, &held?, &ended?)?;
+    let swept = discard_waiting_messages(rt, graves);
+    log_all_closed(alloc, &mut scribe, &held?, &ended?)?;
     swept?;
     Ok(scribe.into_log())
 }

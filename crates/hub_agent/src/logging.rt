@@ -33,12 +33,12 @@ fn log_put(
     ensures { OnOk result (WritesEntries (Put (message_at posted ports.now body.now) ∷ [])
         scribe.old scribe.new) }
 {
-    let content = scribe.message_of(ports, body)?;
-    scribe.put(posted, content)
+    let content = scribe.content_of_message(ports, body)?;
+    scribe.log_posted(posted, content)
 }
 
 /// How often an end has moved. A member and a line are never adopted.
-pub(crate) fn epoch_of(held: Option<&Held>) -> Option<u32> {
+pub(crate) fn move_count(held: Option<&Held>) -> Option<u32> {
     match held? {
         Held::Port(port) => Some(port.moves()),
         Held::Client(queue) => Some(queue.moves()),
@@ -60,21 +60,21 @@ pub(crate) fn log_adopted(
     let Some(epoch) = epoch else {
         return Err(OutOfMemory);
     };
-    scribe.adopt(end, epoch)
+    scribe.log_adoption(end, epoch)
 }
 
 /// Logs that an end was closed.
 pub(crate) fn log_close(scribe: &mut Scribe, end: EndId) -> Result<(), OutOfMemory>
     ensures { OnOk result (WritesEntries (Closed end ∷ []) scribe.old scribe.new) }
 {
-    scribe.close(end)
+    scribe.log_closing(end)
 }
 
 /// Logs a notice that was put.
 pub(crate) fn log_notice(scribe: &mut Scribe, posted: Posted) -> Result<(), OutOfMemory>
     ensures { OnOk result (WritesEntries (Put (notice_at posted) ∷ []) scribe.old scribe.new) }
 {
-    scribe.put(posted, Content::Notice)
+    scribe.log_posted(posted, Content::Notice)
 }
 
 /// Logs the notice of a port that was closed, where it was put, and the closing.
@@ -104,7 +104,7 @@ pub(crate) fn log_closed_end(
 }
 
 /// Logs what became of the ports that a doomed post has closed.
-fn log_doomed(scribe: &mut Scribe, closings: &[ClosedPort]) -> Result<(), OutOfMemory>
+fn log_closings(scribe: &mut Scribe, closings: &[ClosedPort]) -> Result<(), OutOfMemory>
     ensures { OnOk result (WritesEntries (doomed_entries closings.now) scribe.old scribe.new) }
 {
     for closing in closings {
@@ -115,7 +115,7 @@ fn log_doomed(scribe: &mut Scribe, closings: &[ClosedPort]) -> Result<(), OutOfM
 
 /// Logs what a post has come to: an accepted one, or what a doomed one has closed. What was refused
 /// for want of memory is an error.
-pub(crate) fn log_answer(
+pub(crate) fn log_post_result(
     scribe: &mut Scribe,
     answer: Result<Posted, SendRefusal>,
     closings: &Closings,
@@ -127,7 +127,7 @@ pub(crate) fn log_answer(
 {
     match answer {
         Ok(posted) => log_put(scribe, posted, ports, body),
-        Err(SendRefusal::Doomed) => log_doomed(scribe, closings.as_slice()),
+        Err(SendRefusal::Doomed) => log_closings(scribe, closings.as_slice()),
         Err(SendRefusal::OutOfMemory) => Err(OutOfMemory),
         Err(_) => Ok(()),
     }
@@ -144,7 +144,7 @@ pub(crate) fn log_cast(
 {
     let mut refused = Ok(());
     for (_, outcome) in outcomes {
-        log_outcome(scribe, outcome, body)?;
+        log_cast_puts(scribe, outcome, body)?;
         if matches!(outcome, CastOutcome::OutOfMemory) {
             refused = Err(OutOfMemory);
         }
@@ -153,7 +153,7 @@ pub(crate) fn log_cast(
 }
 
 /// Logs a post of a cast, where it was accepted.
-fn log_outcome(scribe: &mut Scribe, outcome: &CastOutcome, body: &Body) -> Result<(), OutOfMemory>
+fn log_cast_puts(scribe: &mut Scribe, outcome: &CastOutcome, body: &Body) -> Result<(), OutOfMemory>
     ensures { OnOk result (WritesEntries (outcome_entries body.now outcome.now)
         scribe.old scribe.new) }
 {

@@ -43,7 +43,7 @@ fn life_of(kind: AgentKind) -> Option<Life> {
 
 impl<'s, C: Checkpoint, K: Lends<Roster> + Drop> Agent<'s, C, K> {
     /// An agent that holds nothing yet, and casts over this roster.
-    pub fn open(
+    pub fn try_new(
         alloc: Global,
         kind: AgentKind,
         shared: &'s Shared,
@@ -65,7 +65,7 @@ impl<'s, C: Checkpoint, K: Lends<Roster> + Drop> Agent<'s, C, K> {
             listener,
             peers,
         } = seat;
-        let handler = scribe.take();
+        let handler = scribe.take_leaving_empty();
         Ok(Agent {
             alloc,
             shared,
@@ -81,7 +81,7 @@ impl<'s, C: Checkpoint, K: Lends<Roster> + Drop> Agent<'s, C, K> {
     }
 
     /// Holds an end that it is given before the run.
-    pub fn give(&mut self, held: Held) -> Result<(), OutOfMemory>
+    pub fn give_end_before_run(&mut self, held: Held) -> Result<(), OutOfMemory>
         ensures same { KeepsButEnds self.old self.new }
         ensures held { OnOk result (HoldsMore self.old.ends self.new.ends held) }
     {

@@ -25,9 +25,9 @@ ghost use Rattle.hub_agent.specs.Casting.{HasCast};
 ghost use Rattle.hub_trace.specs.declared.log_entry.LogEntry.{LogEntry};
 
 use crate::agent::{Agent, AgentLoop};
-use crate::logging::{log_answer, log_cast};
+use crate::logging::{log_cast, log_post_result};
 use crate::shared::Shared;
-use hub_broadcast::{CastError, Member, Roster, cast_in};
+use hub_broadcast::{CastError, Member, Roster, cast_in_lent_roster};
 use hub_clients::DirectoryError;
 use hub_depot::Depot;
 use hub_envelope::{AgentId, Body, EndId, OutOfMemory, Ports};
@@ -42,7 +42,7 @@ use std::sync::Wait;
 /// Posts over a port or a line that the loop holds. Where it holds none the post is answered as at
 /// an end that is closed.
 #[inline(always)]
-fn post_over<C: Checkpoint, R: Wait>(
+fn post_over_port_or_line<C: Checkpoint, R: Wait>(
     event_loop: &mut AgentLoop<'_, C>,
     rt: &R,
     hub: &Hub,
@@ -66,7 +66,7 @@ fn post_over<C: Checkpoint, R: Wait>(
 }
 
 /// The port that is held, or what else is.
-fn port_in(held: Held) -> Result<Port, Held>
+fn as_port(held: Held) -> Result<Port, Held>
     ensures ok { IfOk result (λ port. held ≡ PortHeld port) }
     ensures err { IfErr result (λ back. (back ≡ held)
         × ((port : PortSeat) → held ≢ PortHeld port)) }
@@ -82,8 +82,8 @@ fn port_in(held: Held) -> Result<Port, Held>
 
 /// Closes what can't be held for want of memory, so that it is swept with what was closed by
 /// actions. A line is given back. No member of a roster comes here.
-fn bury<R: Wait>(rt: &R, shared: &Shared, graves: &mut Vec<Grave>, held: Held) {
-    match held.shut(rt, &shared.hub) {
+fn close_or_give_back<R: Wait>(rt: &R, shared: &Shared, graves: &mut Vec<Grave>, held: Held) {
+    match held.close_without_roster(rt, &shared.hub) {
         Ok(closed) => {
             if graves.reserve(1).is_ok() {
                 graves.push_reserved(closed.grave);
@@ -105,7 +105,7 @@ impl<'s, C: Checkpoint, K: Lends<Roster> + Drop> Agent<'s, C, K> {
         match self.event_loop.hold(held) {
             Ok(()) => Ok(()),
             Err((LoopError::OutOfMemory, held)) => {
-                bury(rt, self.shared, &mut self.graves, held);
+                close_or_give_back(rt, self.shared, &mut self.graves, held);
                 Err(OutOfMemory)
             }
         }
@@ -141,12 +141,12 @@ impl<'s, C: Checkpoint, K: Lends<Roster> + Drop> Agent<'s, C, K> {
         if ends.is_empty() {
             return Ok(Some(Vec::new(self.alloc)));
         }
-        self.release_each(rt, ends)
+        self.release_each_port(rt, ends)
     }
 
     /// The same. It is called for a list with ports alone, since it clears room for one.
     #[inline(never)]
-    fn release_each<R: Wait>(
+    fn release_each_port<R: Wait>(
         &mut self,
         rt: &R,
         ends: &[EndId],
@@ -165,7 +165,7 @@ impl<'s, C: Checkpoint, K: Lends<Roster> + Drop> Agent<'s, C, K> {
                 self.hold_ports(rt, ports)?;
                 return Ok(None);
             };
-            match port_in(held) {
+            match as_port(held) {
                 Ok(port) => ports.push_reserved(port),
                 Err(held) => {
                     let again = self.hold(rt, held);
@@ -196,12 +196,12 @@ impl<'s, C: Checkpoint, K: Lends<Roster> + Drop> Agent<'s, C, K> {
             return Ok(());
         };
         let mut parcel = Parcel::new(self.alloc, copy, ports);
-        let agent = self.scribe.agent();
+        let agent = self.scribe.agent_id();
         let (hub, closings) = (&self.shared.hub, &mut self.closings);
         let event_loop = &mut self.event_loop;
-        let answer = post_over(event_loop, rt, hub, agent, way, &mut parcel, closings);
+        let answer = post_over_port_or_line(event_loop, rt, hub, agent, way, &mut parcel, closings);
         let sent = transfer.as_slice();
-        let logged = log_answer(&mut self.scribe, answer, &self.closings, sent, body);
+        let logged = log_post_result(&mut self.scribe, answer, &self.closings, sent, body);
         let Parcel { ports: back, .. } = parcel;
         self.hold_ports(rt, back)?;
         logged
@@ -209,20 +209,20 @@ impl<'s, C: Checkpoint, K: Lends<Roster> + Drop> Agent<'s, C, K> {
 
     /// Holds a line to a queue, unless it does. False where the directory lends none.
     #[inline(always)]
-    fn take_line<R: Wait>(&mut self, rt: &R, queue: EndId) -> Result<bool, OutOfMemory>
+    fn ensure_line_to_queue<R: Wait>(&mut self, rt: &R, queue: EndId) -> Result<bool, OutOfMemory>
         ensures same { KeepsButEnds self.old self.new }
         ensures held { OnOk result (HasLine queue self.old.ends self.new.ends) }
         ensures none { IfOk result (λ has. has ≡ false → HoldsNoLine self.new.ends queue) }
     {
-        if self.event_loop.has_line(queue) {
+        if self.event_loop.has_line_to(queue) {
             return Ok(true);
         }
-        self.borrow_line(rt, queue)
+        self.borrow_line_to(rt, queue)
     }
 
     /// Holds a line to a queue that the directory lends. False where it lends none.
     #[inline(never)]
-    fn borrow_line<R: Wait>(&mut self, rt: &R, queue: EndId) -> Result<bool, OutOfMemory>
+    fn borrow_line_to<R: Wait>(&mut self, rt: &R, queue: EndId) -> Result<bool, OutOfMemory>
         ensures same { KeepsButEnds self.old self.new }
         ensures held { OnOk result (HasLine queue self.old.ends self.new.ends) }
         ensures none { IfOk result (λ has. has ≡ false → self.new.ends ≡ self.old.ends) }
@@ -249,7 +249,7 @@ impl<'s, C: Checkpoint, K: Lends<Roster> + Drop> Agent<'s, C, K> {
             self.old.ends self.new.ends self.old.notes self.new.notes) }
         ensures rest { KeepsElse self.old self.new }
     {
-        if !self.take_line(rt, queue)? {
+        if !self.ensure_line_to_queue(rt, queue)? {
             return Ok(());
         }
         self.post(rt, Way::Line(queue), body, transfer)
@@ -293,7 +293,7 @@ pub(crate) fn cast_and_log<K: Lends<Roster>, R: Wait>(
         × WritesEntries entries scribe.old scribe.new) }
 {
     let copy = body.clone()?;
-    match cast_in(rt, roster, yard, source, copy, &[]) {
+    match cast_in_lent_roster(rt, roster, yard, source, copy, &[]) {
         Ok(outcomes) => log_cast(scribe, &outcomes, body),
         Err(CastError::OutOfMemory) => Err(OutOfMemory),
         Err(CastError::InvalidState | CastError::NotTransferable) => Ok(()),

@@ -30,7 +30,7 @@ impl Shared {
 
     /// Closes the queues that nobody has fetched and the ports that nobody has received, and
     /// discards what waits for them. No log tells of it. Where memory runs out it goes on once.
-    pub fn end<R: Wait>(self, rt: &R) -> Result<(), OutOfMemory> {
+    pub fn close_all_unclaimed<R: Wait>(self, rt: &R) -> Result<(), OutOfMemory> {
         let Shared { hub, directory } = self;
         directory.end(rt);
         let Err((OutOfMemory, hub)) = hub.end(rt) else {
@@ -55,7 +55,7 @@ pub struct Peer {
 
 impl Peer {
     /// Gives the agent the order to end, and wakes it.
-    pub(crate) fn order(&mut self)
+    pub(crate) fn order_to_stop(&mut self)
         ensures { self.new ≡ peer_ordered self.old }
     {
         self.order.give();
@@ -71,8 +71,8 @@ impl Peer {
 }
 
 /// Gives all agents the order to end, so that none waits for one that gives up.
-pub(crate) fn order_all(peers: &mut [Peer]) {
+pub(crate) fn order_all_to_stop(peers: &mut [Peer]) {
     for peer in peers {
-        peer.order();
+        peer.order_to_stop();
     }
 }

@@ -6,7 +6,7 @@ ghost use Rattle.std.specs.Arc.{arc_value};
 use crate::OutOfMemory;
 use crate::board::{
     ASLEEP, Board, BoardSeat, BoardWords, FIRST_BITS, Fresh, LoadWord, NAMES, SetBits, StoreWord,
-    TakeWord, WORDS, bits_word_of, end_mask_of, has_bit, name_mask_of,
+    TakeWord, WORDS, end_mask_of, group_mask_of, has_bit, word_index_of_end,
 };
 use crossbeam_utils::rule::{Outcome, Protocol};
 use crossbeam_utils::sync::parker::{Pass, RuledParker, RuledUnparker};
@@ -27,11 +27,12 @@ pub struct Bell {
 impl Model for Bell {
     ghost use Rattle.std.specs.Prelude.{◌≡◌, []};
     ghost use Rattle.std.specs.Arc.{arc_value};
-    ghost use Rattle.hub_bell.specs.Seats.{BoardSeat, board_seat};
+    ghost use Rattle.hub_bell.specs.Seats.{BoardSeat, board_id, board_seat};
 
     ghost Value = { BoardSeat };
 
-    ghost view = { λ b. board_seat b.seat.table_id b.seat.me.0 b.pass.me.0 };
+    ghost view = { λ b. board_seat (board_id b.seat.table_id b.pass.table_id)
+        b.seat.me.0 b.pass.me.0 };
 
     ghost invariant = { λ b. (b.seat.table_id ≡ (arc_value b.board).words.shared.table_id)
         × (b.pass.table_id ≡ (arc_value (arc_value b.board).waker.state).shared.table_id) };
@@ -41,11 +42,13 @@ impl Bell {
     ghost use Rattle.hub_bell.specs.declared.board.BoardStep.TheVariants.{Looked};
     ghost use Rattle.hub_bell.specs.Ready.{asleep_word, is_set};
     ghost use Rattle.hub_bell.specs.Ringing.{IsRung, marking};
-    ghost use Rattle.hub_bell.specs.Seats.{new_at};
+    ghost use Rattle.hub_bell.specs.Seats.{board_id, new_at};
 
     /// The first seat at a board, of which this is a bell.
     pub(crate) fn new(board: Arc<Board>) -> Bell
-        ensures { result ≡ new_at (arc_value board).words.shared.table_id }
+        ensures { result ≡ new_at (board_id
+            (arc_value board).words.shared.table_id
+            (arc_value (arc_value board).waker.state).shared.table_id) }
     {
         let seat = board.words.shared.load_new_seat::<Fresh>(NAMES).1;
         let pass = board.waker.pass();
@@ -53,7 +56,7 @@ impl Bell {
     }
 
     /// Leaves a bit set, and answers whether it was clear.
-    fn mark(&mut self, word: usize, mask: u64) -> bool
+    fn set_bit_if_clear(&mut self, word: usize, mask: u64) -> bool
         requires { word < 1040 }
         ensures { (found : ℕ) × (result ≡ not (is_set found mask))
             × (self.new ≡ record self.old {
@@ -71,7 +74,7 @@ impl Bell {
     }
 
     /// Whether the listener sleeps, or is about to.
-    fn finds_asleep(&mut self) -> bool
+    fn is_listener_asleep(&mut self) -> bool
         ensures { (found : ℕ) × (result ≡ (found == 1))
             × (self.new ≡ record self.old {
               at = record self.old.at {
@@ -91,13 +94,13 @@ impl Bell {
     pub fn ring(&mut self, end: EndId)
         ensures { (self.new.board ≡ self.old.board) × IsRung self.old.at self.new.at end }
     {
-        if !self.mark(bits_word_of(end), end_mask_of(end)) {
+        if !self.set_bit_if_clear(word_index_of_end(end), end_mask_of(end)) {
             return;
         }
-        if !self.mark(NAMES, name_mask_of(end)) {
+        if !self.set_bit_if_clear(NAMES, group_mask_of(end)) {
             return;
         }
-        if self.finds_asleep() {
+        if self.is_listener_asleep() {
             self.wake();
         }
     }
@@ -193,14 +196,16 @@ pub struct Listener {
 impl Model for Listener {
     ghost use Rattle.std.specs.Prelude.{◌≡◌, []};
     ghost use Rattle.std.specs.Arc.{arc_value};
-    ghost use Rattle.hub_bell.specs.Seats.{BoardSeat, board_seat};
+    ghost use Rattle.hub_bell.specs.Seats.{BoardSeat, board_id, board_seat};
 
     ghost Value = { BoardSeat };
 
-    ghost view = { λ l. board_seat l.seat.table_id l.seat.me.0 l.pass.me.0 };
+    ghost view = { λ l. board_seat (board_id l.seat.table_id l.pass.table_id)
+        l.seat.me.0 l.pass.me.0 };
 
     ghost invariant = { λ l. (l.seat.table_id ≡ (arc_value l.board).words.shared.table_id)
-        × (l.pass.table_id ≡ (arc_value l.sleeper.unparker.state).shared.table_id) };
+        × (l.pass.table_id ≡ (arc_value l.sleeper.unparker.state).shared.table_id)
+        × (l.pass.table_id ≡ (arc_value (arc_value l.board).waker.state).shared.table_id) };
 }
 
 impl Listener {
@@ -249,7 +254,7 @@ impl Listener {
         ensures { (self.new.board ≡ self.old.board)
             × IsSwappedOut self.old.at self.new.at names_word result }
     {
-        self.take(NAMES)
+        self.take_word(NAMES)
     }
 
     /// Takes out the bits of a word: bit `k` of word `n` is that of the end whose number is
@@ -259,11 +264,11 @@ impl Listener {
         ensures { (self.new.board ≡ self.old.board)
             × IsSwappedOut self.old.at self.new.at (16 + word) result }
     {
-        self.take(FIRST_BITS + word)
+        self.take_word(FIRST_BITS + word)
     }
 
     /// A load comes first, since mostly there is nothing to take out.
-    fn take(&mut self, word: usize) -> u64
+    fn take_word(&mut self, word: usize) -> u64
         requires { word < 1040 }
         ensures { (self.new.board ≡ self.old.board)
             × IsSwappedOut self.old.at self.new.at word result }
@@ -276,7 +281,7 @@ impl Listener {
     }
 
     /// Whether a word with set bits is named.
-    fn finds_names(&mut self) -> bool
+    fn has_set_bits(&mut self) -> bool
         ensures { (found : ℕ) × (result ≡ not (found == 0))
             × (self.new ≡ record self.old {
               at = record self.old.at {
@@ -297,7 +302,7 @@ impl Listener {
             × (self.new ≡ record self.old { at = looked self.old.at looks }) }
     {
         for _look in 0..LOOKS {
-            if self.finds_names() {
+            if self.has_set_bits() {
                 return true;
             }
             thread::yield_now();

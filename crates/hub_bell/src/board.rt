@@ -46,7 +46,7 @@ pub(crate) fn has_bit(value: u64, mask: u64) -> bool
 }
 
 /// The word that has the end's bit.
-pub(crate) fn bits_word_of(end: EndId) -> usize
+pub(crate) fn word_index_of_end(end: EndId) -> usize
     ensures exactly { result ≡ bits_word end }
     ensures on_board { result < 1040 }
 {
@@ -61,7 +61,7 @@ pub(crate) fn end_mask_of(end: EndId) -> u64
 }
 
 /// The bit that names the group of that word.
-pub(crate) fn name_mask_of(end: EndId) -> u64
+pub(crate) fn group_mask_of(end: EndId) -> u64
     ensures { result ≡ name_mask end }
 {
     mask_of((end.0 as usize / (WIDTH * GROUP) % WIDTH) as u32)

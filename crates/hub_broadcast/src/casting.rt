@@ -26,7 +26,7 @@ pub enum CastOutcome {
 }
 
 /// So many drafts of what the source casts.
-pub(crate) fn drafts_of(
+pub(crate) fn make_equal_drafts(
     alloc: Global,
     source: &Member,
     body: &Body,
@@ -50,7 +50,7 @@ pub(crate) fn drafts_of(
 
 /// Posts the body at each destination of the source, in order: what became of it there. It makes
 /// all that can be refused before the first post.
-pub(crate) fn cast_all<R: Wait>(
+pub(crate) fn cast_to_destinations<R: Wait>(
     rt: &R,
     alloc: Global,
     yard: &Depot<Onward>,
@@ -66,13 +66,13 @@ pub(crate) fn cast_all<R: Wait>(
         .iter()
         .filter(|subscription| subscription.is_destination(source))
         .count();
-    let mut drafts = drafts_of(alloc, source, body, count)?;
+    let mut drafts = make_equal_drafts(alloc, source, body, count)?;
     let mut outcomes = Vec::with_capacity(alloc, count)?;
     for subscription in subscriptions.iter_mut() {
         if subscription.is_destination(source) {
             let draft = drafts.pop().unwrap();
             let end = subscription.id();
-            let outcome = subscription.deliver(rt, yard, draft);
+            let outcome = subscription.post_draft(rt, yard, draft);
             outcomes.push_reserved((end, outcome));
         }
     }

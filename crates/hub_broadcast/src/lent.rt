@@ -18,7 +18,7 @@ use hub_queue::Onward;
 use std::sync::Wait;
 
 /// Takes a member out of the roster: `Roster::leave`.
-pub fn leave_in<L: Lends<Roster>, R: Wait>(rt: &R, lender: &mut L, end: EndId)
+pub fn leave_lent_roster<L: Lends<Roster>, R: Wait>(rt: &R, lender: &mut L, end: EndId)
     ensures { L.shown lender.new
         ≡ option_map (filter (λ s. not (is_of_end end s))) (L.shown lender.old) }
 {
@@ -26,7 +26,7 @@ pub fn leave_in<L: Lends<Roster>, R: Wait>(rt: &R, lender: &mut L, end: EndId)
 }
 
 /// Casts from a member: `Roster::cast`.
-pub fn cast_in<L: Lends<Roster>, R: Wait>(
+pub fn cast_in_lent_roster<L: Lends<Roster>, R: Wait>(
     rt: &R,
     lender: &mut L,
     yard: &Depot<Onward>,

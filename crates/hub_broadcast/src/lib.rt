@@ -20,7 +20,7 @@ pub use error::{CastError, JoinError};
 pub use hub_envelope::OutOfMemory;
 pub use hub_origin::{Origin, OriginError, origin_of};
 pub use laws::roster_laws;
-pub use lent::{cast_in, leave_in};
+pub use lent::{cast_in_lent_roster, leave_lent_roster};
 pub use member::Member;
 pub use roster::Roster;
 pub use shared_roster::SharedRoster;

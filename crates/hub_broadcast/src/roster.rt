@@ -5,7 +5,7 @@ ghost use Rattle.hub_broadcast.specs.Casting.{AreDestinations, IsBroadcast, cast
 ghost use Rattle.hub_broadcast.specs.Destinations.{destinations_in, is_of_end};
 ghost use Rattle.hub_broadcast.specs.Joining.{IsJoined};
 
-use crate::casting::{CastOutcome, cast_all};
+use crate::casting::{CastOutcome, cast_to_destinations};
 use crate::error::{CastError, JoinError};
 use crate::member::Member;
 use crate::subscription::Subscription;
@@ -79,7 +79,7 @@ impl Roster {
         let Some(end) = drawn.draw() else {
             return Err(JoinError::TooManyEnds);
         };
-        if !self.is_below(end) {
+        if !self.are_all_ends_below(end) {
             return Err(JoinError::OtherEnds);
         }
         self.subscriptions.reserve(1)?;
@@ -101,7 +101,7 @@ impl Roster {
     }
 
     /// Whether all members' ends have lower numbers. The last one's is the highest.
-    fn is_below(&self, end: EndId) -> bool
+    fn are_all_ends_below(&self, end: EndId) -> bool
         ensures { MatchBool result (All (λ s. s.poster.name.end.0 < end.0) self.now)
             (Any (λ s. end.0 ≤ s.poster.name.end.0) self.now) }
     {
@@ -120,7 +120,7 @@ impl Roster {
             .retain(|subscription| subscription.id() != end);
     }
 
-    fn has(&self, end: EndId) -> bool
+    fn has_member(&self, end: EndId) -> bool
         ensures { MatchBool result (Any (λ s. s.poster.name.end.0 ≡ end.0) self.now)
             (All (λ s. s.poster.name.end.0 ≢ end.0) self.now) }
     {
@@ -156,13 +156,13 @@ impl Roster {
         ensures no_list { OnOk result (list.now ≡ []) }
         ensures err { OnErr result (self.new ≡ self.old) }
     {
-        if !self.has(source.id()) {
+        if !self.has_member(source.id()) {
             return Err(CastError::InvalidState);
         }
         if !list.is_empty() {
             return Err(CastError::NotTransferable);
         }
         let subscriptions = self.subscriptions.as_mut_slice();
-        Ok(cast_all(rt, self.alloc, yard, source, &body, subscriptions)?)
+        Ok(cast_to_destinations(rt, self.alloc, yard, source, &body, subscriptions)?)
     }
 }

@@ -56,7 +56,7 @@ impl Subscription {
     }
 
     /// Posts the draft at the member.
-    pub(crate) fn deliver<R: Wait>(
+    pub(crate) fn post_draft<R: Wait>(
         &mut self,
         rt: &R,
         yard: &Depot<Onward>,

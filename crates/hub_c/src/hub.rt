@@ -8,7 +8,7 @@ ghost use Rattle.hub_c.specs.Line.{BadLine, LostLine, NoMemoryLine, NoRoomLine, 
 ghost use Rattle.hub_c.specs.Line.{says_something};
 ghost use Rattle.hub_c.specs.Calls.{CallsSayTheText};
 
-use crate::line::{give_line, say_again};
+use crate::line::{run_line_and_answer, say_again};
 use crate::slot::{Parts, SessionSlot};
 use crate::status::{DONE, NO_MEMORY, WRONG_STATE};
 use hub_steps::Session;
@@ -42,7 +42,7 @@ impl HubHandle {
         }
     }
 
-    fn open(session: Box<Session>) -> HubHandle
+    fn new_open(session: Box<Session>) -> HubHandle
         ensures { result.slot.held ≡ Some session.value }
     {
         HubHandle {
@@ -75,7 +75,7 @@ pub extern "C" fn varukoni_open(alloc: Global, hub: &mut HubHandle) -> u8
     }
     match Box::new(alloc, Session::new(alloc)) {
         Ok(session) => {
-            *hub = HubHandle::open(session);
+            *hub = HubHandle::new_open(session);
             DONE
         }
         Err(_) => NO_MEMORY,
@@ -123,8 +123,8 @@ pub extern "C" fn varukoni_line(
         return WRONG_STATE;
     }
     let mut session = mem::replace(hub, HubHandle::new_closed(alloc)).into_session();
-    let status = give_line(alloc, &mut session, line, room, length);
-    *hub = HubHandle::open(session);
+    let status = run_line_and_answer(alloc, &mut session, line, room, length);
+    *hub = HubHandle::new_open(session);
     status
 }
 
@@ -151,7 +151,7 @@ pub extern "C" fn varukoni_said(
     }
     let mut session = mem::replace(hub, HubHandle::new_closed(alloc)).into_session();
     let status = say_again(&mut session, room, length);
-    *hub = HubHandle::open(session);
+    *hub = HubHandle::new_open(session);
     status
 }
 

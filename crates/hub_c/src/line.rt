@@ -7,13 +7,13 @@ ghost use Rattle.hub_c.specs.Line.{BadLine, IsStatus, LostLine, NoMemoryLine, No
 ghost use Rattle.hub_c.specs.Line.{SaysAgain, says_something};
 
 use crate::status::{BAD, DONE, LOST, NO_MEMORY, NO_ROOM};
-use crate::texts::fill;
+use crate::texts::copy_into_buffer;
 use hub_steps::{Reply, Session};
 use std::alloc::Global;
 
 /// Gives a text line to a session, and puts what it is answered with into the room: an outcome
 /// line, or the name of the first test that the text line fails.
-pub fn give_line(
+pub fn run_line_and_answer(
     alloc: Global,
     session: &mut Session,
     line: &[u8],
@@ -35,11 +35,11 @@ pub fn give_line(
 {
     match session.run_line(alloc, line) {
         Reply::Ran => {
-            put_said(session, room, length);
+            copy_last_answer(session, room, length);
             DONE
         }
         Reply::Bad => {
-            put_said(session, room, length);
+            copy_last_answer(session, room, length);
             BAD
         }
         Reply::NoMemory => NO_MEMORY,
@@ -50,14 +50,14 @@ pub fn give_line(
 
 /// Puts what was said last into the room. It is false, and touches nothing, where the outcome line
 /// found no memory yet.
-pub fn put_said(session: &Session, room: &mut [u8], length: &mut usize) -> bool
+pub fn copy_last_answer(session: &Session, room: &mut [u8], length: &mut usize) -> bool
     ensures said { result ≡ true → Fills room.old room.new length.new (told session.now) }
     ensures not_said { result ≡ false → (room.new ≡ room.old) × (length.new ≡ length.old) }
     ensures exactly { result ≡ is_told session.now }
 {
     match session.said() {
         Some(text) => {
-            fill(text, room, length);
+            copy_into_buffer(text, room, length);
             true
         }
         None => false,
@@ -74,9 +74,9 @@ pub fn say_again(session: &mut Session, room: &mut [u8], length: &mut usize) -> 
     ensures statuses { (result ≡ 0) ⊎ (result ≡ 3) }
     ensures untouched { result ≡ 3 → (room.new ≡ room.old) × (length.new ≡ length.old) }
 {
-    match session.write_untold() {
+    match session.write_untold_outcome() {
         Ok(()) => {
-            put_said(session, room, length);
+            copy_last_answer(session, room, length);
             DONE
         }
         Err(_) => NO_MEMORY,

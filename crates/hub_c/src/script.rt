@@ -5,8 +5,8 @@ ghost use Rattle.hub_engine.specs.Counted.{inner_writer};
 ghost use Rattle.hub_engine.specs.Engine.{Writes};
 ghost use Rattle.hub_c.specs.Answers.{AnswersScript, IsScriptVerdict};
 
-use crate::texts::put_text;
-use hub_engine::{CountedWriter, Device, ExitStatus, end_unread};
+use crate::texts::copy_output_and_return_status;
+use hub_engine::{CountedWriter, Device, ExitStatus, write_input_error};
 use hub_script::Script;
 use std::alloc::Global;
 use std::io::Write;
@@ -23,13 +23,13 @@ pub extern "C" fn varukoni_script(
     ensures { AnswersScript input.now room.old room.new length.new result }
 {
     let mut writer = CountedWriter::new(Vec::new(alloc));
-    let answer = read_script(alloc, input, &mut writer);
+    let answer = write_first_bad_line(alloc, input, &mut writer);
     let text = writer.into_inner();
-    put_text(answer, text.as_slice(), room, length)
+    copy_output_and_return_status(answer, text.as_slice(), room, length)
 }
 
 /// Reads a script, and writes its first bad line.
-fn read_script<W: Write>(
+fn write_first_bad_line<W: Write>(
     alloc: Global,
     input: &[u8],
     writer: &mut CountedWriter<W>,
@@ -39,6 +39,6 @@ fn read_script<W: Write>(
 {
     match Script::read(alloc, input) {
         Ok(_script) => Ok(ExitStatus::Success),
-        Err((line, error)) => end_unread(alloc, writer, line, error.kind()),
+        Err((line, error)) => write_input_error(alloc, writer, line, error.kind()),
     }
 }

@@ -26,7 +26,7 @@ pub extern "C" fn varukoni_steps(
     let mut writer = CountedWriter::new(Vec::new(alloc));
     let answer = run_steps(alloc, &mut reader, &mut writer);
     let text = writer.into_inner();
-    put_text(answer, text.as_slice(), room, length)
+    copy_output_and_return_status(answer, text.as_slice(), room, length)
 }
 
 /// Checks the logs of a run, as `messagehub check` does, and puts what it prints into the room. It
@@ -44,12 +44,12 @@ pub extern "C" fn varukoni_check(
     let mut writer = CountedWriter::new(Vec::new(alloc));
     let answer = run_check(alloc, &mut reader, &mut writer);
     let text = writer.into_inner();
-    put_text(answer, text.as_slice(), room, length)
+    copy_output_and_return_status(answer, text.as_slice(), room, length)
 }
 
 /// Puts what an engine has written into the room, and gives the number of its exit status; 4 where
 /// it found no memory for what it had to write.
-pub fn put_text(
+pub fn copy_output_and_return_status(
     answer: Result<ExitStatus, Device>,
     text: &[u8],
     room: &mut [u8],
@@ -61,7 +61,7 @@ pub fn put_text(
 {
     match answer {
         Ok(status) => {
-            fill(text, room, length);
+            copy_into_buffer(text, room, length);
             status.number()
         }
         Err(Device) => NO_ROOM,
@@ -70,7 +70,7 @@ pub fn put_text(
 
 /// Puts the front of a text into the room for it, as far as there is room, and tells how long the
 /// whole text is.
-pub fn fill(text: &[u8], room: &mut [u8], length: &mut usize)
+pub fn copy_into_buffer(text: &[u8], room: &mut [u8], length: &mut usize)
     ensures { Fills room.old room.new length.new text.now }
 {
     let count = text.len().min(room.len());

@@ -26,12 +26,12 @@ pub fn open_channel<M: Drop>(
     let here = Arc::new(alloc, AtomicU64::new(NO_TOKEN))?;
     let there = Arc::new(alloc, AtomicU64::new(NO_TOKEN))?;
     let tokens = (Arc::try_clone(&there)?, Arc::try_clone(&here)?);
-    let port = port_of(to, from, (here, there), name);
-    let peer = port_of(back, from_first, tokens, name);
+    let port = new_channel_port(to, from, (here, there), name);
+    let peer = new_channel_port(back, from_first, tokens, name);
     Ok((port, peer))
 }
 
-fn port_of<M: Drop>(
+fn new_channel_port<M: Drop>(
     to: LinePoster<M>,
     from: LineTaker<M>,
     tokens: (Arc<AtomicU64>, Arc<AtomicU64>),

@@ -110,7 +110,7 @@ impl<M: Drop> ChannelPort<M> {
             LineTaken::Item(message) => PortTaken::Message(message),
             LineTaken::Empty => PortTaken::Empty,
             LineTaken::Ended => {
-                self.to.is_over();
+                self.to.is_closed_by_taker();
                 PortTaken::Ended
             }
         }

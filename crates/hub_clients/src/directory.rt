@@ -7,7 +7,9 @@ ghost use Rattle.hub_clients.specs.NewQueues.{IsNewClientQueue, listed_of, IsNew
 ghost use Rattle.hub_clients.specs.Handing.{taker_of};
 
 use crate::error::{DirectoryError, HandError, QueueError};
-use crate::handed::{Handed, HandedQueue, close_all, fetch_from, keep_in};
+use crate::handed::{
+    Handed, HandedQueue, close_handed_queues, fetch_from_lent_map, keep_in_lent_map,
+};
 use crate::listing::{Listed, QueueList};
 use crate::queue::{ClientQueue, Queue, WorkerQueue};
 use hub_depot::Depot;
@@ -20,7 +22,7 @@ use std::sync::Wait;
 /// A queue of the next number, which is listed with all its lines at home. All that can be refused
 /// but the place in the listing is made before that is asked for, and the number is used up last.
 /// After an error nothing more is listed.
-pub fn open_in<L: Lends<QueueList>, R: Wait>(
+pub fn open_queue_in_lent_list<L: Lends<QueueList>, R: Wait>(
     rt: &R,
     alloc: Global,
     lender: &mut L,
@@ -77,14 +79,19 @@ impl Directory {
     }
 
     /// A queue of the next number, which is listed under the lock.
-    fn open<R: Wait>(&self, rt: &R, ends: &mut Ends, bell: Bell) -> Result<Taker, QueueError>
+    fn open_listed_queue<R: Wait>(
+        &self,
+        rt: &R,
+        ends: &mut Ends,
+        bell: Bell,
+    ) -> Result<Taker, QueueError>
         ensures queue { IfOk result (IsNewClientQueue ends.old.drawn) }
         ensures drawn { OnOk result (ends.new.drawn ≡ ends.old.drawn + 1) }
         ensures err { OnErr result (ends.new ≡ ends.old) }
         ensures many { IsErrOf result QueueError.TooManyEnds ↔ (MAX_ENDS ≤ ends.old.drawn) }
     {
         let mut lender = &self.listing;
-        open_in(rt, self.alloc, &mut lender, ends, bell)
+        open_queue_in_lent_list(rt, self.alloc, &mut lender, ends, bell)
     }
 
     /// Makes and lists the message queue of a client, which is empty and disabled (W3C Service
@@ -103,8 +110,8 @@ impl Directory {
         ensures err { OnErr result (ends.new ≡ ends.old) }
         ensures many { IsErrOf result QueueError.TooManyEnds ↔ (MAX_ENDS ≤ ends.old.drawn) }
     {
-        let taker = self.open(rt, ends, bell)?;
-        Ok(Queue::of(taker))
+        let taker = self.open_listed_queue(rt, ends, bell)?;
+        Ok(Queue::from_taker(taker))
     }
 
     /// Makes and lists the message queue of a worker, which is empty and enabled. All else is as of
@@ -120,9 +127,9 @@ impl Directory {
         ensures err { OnErr result (ends.new ≡ ends.old) }
         ensures many { IsErrOf result QueueError.TooManyEnds ↔ (MAX_ENDS ≤ ends.old.drawn) }
     {
-        let mut taker = self.open(rt, ends, bell)?;
+        let mut taker = self.open_listed_queue(rt, ends, bell)?;
         taker.start();
-        Ok(Queue::of(taker))
+        Ok(Queue::from_taker(taker))
     }
 
     /// Lends a line to an end, the least that is at home: `QueueList::line_to` under the lock. The
@@ -146,7 +153,7 @@ impl Directory {
     }
 
     /// Keeps a queue until that agent fetches it.
-    pub(crate) fn keep<R: Wait>(
+    pub(crate) fn keep_handed_queue<R: Wait>(
         &self,
         rt: &R,
         queue: HandedQueue,
@@ -155,16 +162,16 @@ impl Directory {
         ensures { IfErr result (λ refused. refused.1 ≡ queue) }
     {
         let mut lender = self.handed.as_locked();
-        keep_in(rt, &mut lender, queue, to)
+        keep_in_lent_map(rt, &mut lender, queue, to)
     }
 
     /// Takes out the queue of that number that was handed to that agent. `None` where none waits.
     /// It takes no memory.
-    pub fn fetch<R: Wait>(&self, rt: &R, end: EndId, to: AgentId) -> Option<Handed>
+    pub fn fetch_handed_queue<R: Wait>(&self, rt: &R, end: EndId, to: AgentId) -> Option<Handed>
         ensures { IfSome result (λ h. ((taker_of h.queue).end ≡ end.0) × (h.to ≡ to)) }
     {
         let mut lender = self.handed.as_locked();
-        fetch_from(rt, &mut lender, end, to)
+        fetch_from_lent_map(rt, &mut lender, end, to)
     }
 
     /// Closes every queue that still waits for an agent. What is left of them is discarded: ports
@@ -176,6 +183,6 @@ impl Directory {
             handed,
         } = self;
         let mut waiting = handed.into_kept();
-        close_all(rt, &mut waiting, &mut Unheard);
+        close_handed_queues(rt, &mut waiting, &mut Unheard);
     }
 }

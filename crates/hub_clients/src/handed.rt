@@ -7,7 +7,7 @@ ghost use Rattle.hub_clients.specs.Handing.{handed_name, handed_to, taker_of, Ar
 
 use crate::error::HandError;
 use crate::queue::{ClientQueue, WorkerQueue};
-use hub_depot::{DepotError, Kept, Key, Named, put_in, take_in};
+use hub_depot::{DepotError, Kept, Key, Named, put_into_lent_map, take_from_lent_map};
 use hub_envelope::{AgentId, EndId, LineId};
 use hub_locked::{Hears, Lends};
 use hub_queue::Grave;
@@ -63,7 +63,7 @@ impl Handed {
 
     /// The name under which the queue of that number waits for an agent. A queue waits as a whole,
     /// with all its epochs, so the agent stands in the place of one.
-    pub(crate) fn name_for(end: EndId, to: AgentId) -> Key
+    pub(crate) fn key_for_agent(end: EndId, to: AgentId) -> Key
         ensures { result ≡ handed_name end.0 to }
     {
         Key {
@@ -84,12 +84,12 @@ impl Named for Handed {
     fn name(&self) -> Key
         ensures { result ≡ handed_name (taker_of self.now.queue).end self.now.to }
     {
-        Handed::name_for(self.queue.id(), self.to)
+        Handed::key_for_agent(self.queue.id(), self.to)
     }
 }
 
 /// Keeps a queue until that agent fetches it. After an error it comes back.
-pub fn keep_in<L: Lends<Kept<Handed>>, R: Wait>(
+pub fn keep_in_lent_map<L: Lends<Kept<Handed>>, R: Wait>(
     rt: &R,
     lender: &mut L,
     queue: HandedQueue,
@@ -106,7 +106,7 @@ pub fn keep_in<L: Lends<Kept<Handed>>, R: Wait>(
     ensures back { IfErr result (λ refused. refused.1 ≡ queue) }
     ensures err { OnErr result (L.shown lender.new ≡ L.shown lender.old) }
 {
-    match put_in(rt, lender, Handed { queue, to }) {
+    match put_into_lent_map(rt, lender, Handed { queue, to }) {
         Ok(()) => Ok(()),
         Err(DepotError::Taken(Handed { queue, to: _ })) => Err((HandError::Taken, queue)),
         Err(DepotError::OutOfMemory(Handed { queue, to: _ })) => {
@@ -116,7 +116,7 @@ pub fn keep_in<L: Lends<Kept<Handed>>, R: Wait>(
 }
 
 /// Takes out the queue of that number that was handed to that agent.
-pub fn fetch_from<L: Lends<Kept<Handed>>, R: Wait>(
+pub fn fetch_from_lent_map<L: Lends<Kept<Handed>>, R: Wait>(
     rt: &R,
     lender: &mut L,
     end: EndId,
@@ -128,11 +128,15 @@ pub fn fetch_from<L: Lends<Kept<Handed>>, R: Wait>(
     ensures rest { L.shown lender.new
         ≡ option_map (λ kept. map.remove kept (handed_name end.0 to)) (L.shown lender.old) }
 {
-    take_in(rt, lender, Handed::name_for(end, to))
+    take_from_lent_map(rt, lender, Handed::key_for_agent(end, to))
 }
 
 /// Closes all queues that wait, and tells of each closed end.
-pub fn close_all<H: Hears<Grave>, R: Wait>(rt: &R, waiting: &mut Kept<Handed>, heard: &mut H)
+pub fn close_handed_queues<H: Hears<Grave>, R: Wait>(
+    rt: &R,
+    waiting: &mut Kept<Handed>,
+    heard: &mut H,
+)
     ensures all { waiting.new ≡ map.empty }
     ensures told { IfSome (H.told heard.old) (λ before.
         AreToldClosed waiting.old map.empty before (H.told heard.new)) }

@@ -12,8 +12,8 @@ mod handed;
 mod listing;
 mod queue;
 
-pub use directory::{Directory, open_in};
+pub use directory::{Directory, open_queue_in_lent_list};
 pub use error::{DirectoryError, HandError, QueueError};
-pub use handed::{Handed, HandedQueue, close_all, fetch_from, keep_in};
+pub use handed::{Handed, HandedQueue, close_handed_queues, fetch_from_lent_map, keep_in_lent_map};
 pub use listing::{Listed, QueueList};
 pub use queue::{Client, ClientQueue, Queue, QueueKind, Worker, WorkerQueue};

@@ -29,7 +29,7 @@ impl Model for Listed {
 }
 
 /// The first line whose poster is at home.
-fn first_at_home(lines: &[Option<Poster>]) -> Option<usize>
+fn first_line_with_poster(lines: &[Option<Poster>]) -> Option<usize>
     ensures { result ≡ position is_some lines.now }
 {
     lines.iter().position(|line| line.is_some())
@@ -55,18 +55,18 @@ impl Listed {
 
     /// Takes out the poster of the least line at home. `None` where each line is out. It costs at
     /// most one look at each line, and takes no memory.
-    pub fn take_out(&mut self) -> Option<Poster>
+    pub fn take_first_poster(&mut self) -> Option<Poster>
         ensures taken { IsTakenOut self.old self.new result }
         ensures own { IfSome result
             (λ p. (p.name.end ≡ self.old.end) × (p.name.line.0 < MAX_LINES)) }
     {
-        let line = first_at_home(&self.lines)?;
+        let line = first_line_with_poster(&self.lines)?;
         self.lines[line].take()
     }
 
     /// Puts a poster of this queue back to its own line. It comes back where that line isn't out.
     /// It takes no memory.
-    pub fn put_back(&mut self, poster: Poster) -> Result<(), Poster>
+    pub fn put_back_poster(&mut self, poster: Poster) -> Result<(), Poster>
         requires { poster.name.end ≡ self.old.end }
         ensures { IsPutBack self.old self.new poster result }
     {
@@ -153,7 +153,7 @@ impl QueueList {
             return Err(DirectoryError::NoSuchEnd);
         };
         let queue = &mut self.queues[place];
-        queue.take_out().ok_or(DirectoryError::NoLine)
+        queue.take_first_poster().ok_or(DirectoryError::NoLine)
     }
 
     /// Puts a poster back to its line at the first queue of its number. The poster comes back where
@@ -165,6 +165,6 @@ impl QueueList {
             return Err(poster);
         };
         let queue = &mut self.queues[place];
-        queue.put_back(poster)
+        queue.put_back_poster(poster)
     }
 }

@@ -53,7 +53,7 @@ impl<K> Model for Queue<K> {
 
 impl<K> Queue<K> {
     /// The queue from which this taker takes.
-    pub(crate) fn of(taker: Taker) -> Queue<K>
+    pub(crate) fn from_taker(taker: Taker) -> Queue<K>
         ensures { result ≡ taker }
     {
         Queue {
@@ -120,7 +120,7 @@ impl<K: QueueKind> Queue<K> {
     ) -> Result<(), (HandError, Queue<K>)>
         ensures { IfErr result (λ refused. refused.1 ≡ self) }
     {
-        match directory.keep(rt, K::into_handed(self), to) {
+        match directory.keep_handed_queue(rt, K::into_handed(self), to) {
             Ok(()) => Ok(()),
             Err((error, queue)) => Err((error, K::from_handed(queue))),
         }
@@ -189,8 +189,8 @@ impl Queue<Client> {
         ensures { IsAdopted self result }
     {
         match self.into_taker().adopt(rt, yard, bell) {
-            Ok(taker) => Ok(Queue::of(taker)),
-            Err((error, taker)) => Err((error, Queue::of(taker))),
+            Ok(taker) => Ok(Queue::from_taker(taker)),
+            Err((error, taker)) => Err((error, Queue::from_taker(taker))),
         }
     }
 }
@@ -243,9 +243,9 @@ impl Queue<Worker> {
         match self.into_taker().adopt(rt, yard, bell) {
             Ok(mut taker) => {
                 taker.start();
-                Ok(Queue::of(taker))
+                Ok(Queue::from_taker(taker))
             }
-            Err((error, taker)) => Err((error, Queue::of(taker))),
+            Err((error, taker)) => Err((error, Queue::from_taker(taker))),
         }
     }
 }

@@ -32,7 +32,7 @@ impl Agent {
     };
 
     /// How many queues of a kind the agent has.
-    pub(crate) fn count(self, kind: Kind) -> u32
+    pub(crate) fn queue_count(self, kind: Kind) -> u32
         ensures { result ≡ count_of kind (Some self) }
     {
         match kind {
@@ -43,7 +43,7 @@ impl Agent {
     }
 
     /// The agent with an end of this kind more.
-    pub(crate) fn with_one_more(mut self, kind: Kind) -> Result<Agent, OutOfMemory>
+    pub(crate) fn with_one_queue_more(mut self, kind: Kind) -> Result<Agent, OutOfMemory>
         ensures { IfOk result (λ x. x ≡ one_more kind self) }
     {
         match kind {
@@ -55,7 +55,7 @@ impl Agent {
     }
 
     /// The agent with an end of this kind less.
-    pub(crate) fn with_one_less(mut self, kind: Kind) -> Agent
+    pub(crate) fn with_one_queue_less(mut self, kind: Kind) -> Agent
         ensures { result ≡ one_less kind self }
     {
         match kind {
@@ -67,7 +67,7 @@ impl Agent {
     }
 
     /// The agent after a poster of it came to this phase: one more is away, or one less.
-    pub(crate) fn with_phase(mut self, phase: Phase) -> Agent
+    pub(crate) fn after_poster_phase_change(mut self, phase: Phase) -> Agent
         ensures { result ≡ counted phase self }
     {
         match phase {

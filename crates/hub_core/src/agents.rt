@@ -88,7 +88,7 @@ impl Core {
             × (self.new ≡ queue_core agent kind self.old o))
             (λ _. self.new ≡ self.old) }
     {
-        if !self.is_running(agent) || self.count_of(kind, agent) != 0 {
+        if !self.is_running(agent) || self.queue_count(kind, agent) != 0 {
             return Ok(Outcome::NotNow);
         }
         let number = self.ends.len();
@@ -98,7 +98,7 @@ impl Core {
         if memory_refused {
             return Ok(Outcome::NoMemory);
         }
-        let counted = self.with_one_more(kind, agent)?;
+        let counted = self.agent_with_one_queue_more(kind, agent)?;
         let end = End::new(self.alloc, agent, kind)?;
         // What the agent has is counted once the end has its place.
         self.ends.push(end)?;
@@ -107,7 +107,7 @@ impl Core {
     }
 
     /// The agent holds the first line of a client's or worker's queue that no agent holds.
-    pub(crate) fn hold(&mut self, end: EndId, agent: AgentId) -> Outcome
+    pub(crate) fn hold_free_line(&mut self, end: EndId, agent: AgentId) -> Outcome
         ensures { let free = first_free (kept_lines (slice_get self.old.ends end.0)) in
             (result ≡ line_answer free (seen self.old) end agent)
             × (self.new ≡ core_after self.old result (action.Line end agent)) }
@@ -132,7 +132,7 @@ impl Core {
     }
 
     /// A line that an agent holds and whose poster is out is held by none.
-    pub(crate) fn give_back(&mut self, sender: Sender) -> Outcome
+    pub(crate) fn release_line(&mut self, sender: Sender) -> Outcome
         ensures { (result ≡ back_answer (seen self.old) sender)
             × (self.new ≡ core_after self.old result (action.Back sender)) }
     {
@@ -146,17 +146,17 @@ impl Core {
     }
 
     /// How many queues of a kind an agent has.
-    pub(crate) fn count_of(&self, kind: Kind, agent: AgentId) -> u32
+    pub(crate) fn queue_count(&self, kind: Kind, agent: AgentId) -> u32
         ensures { result ≡ count_of kind (slice_get self.now.agents agent.0) }
     {
         match self.agent_at(agent) {
-            Some(found) => found.count(kind),
+            Some(found) => found.queue_count(kind),
             None => 0,
         }
     }
 
     /// The agent with an end of this kind more.
-    pub(crate) fn with_one_more(
+    pub(crate) fn agent_with_one_queue_more(
         &self,
         kind: Kind,
         agent: AgentId,
@@ -165,7 +165,7 @@ impl Core {
             ≡ option_map (one_more kind) (slice_get self.now.agents agent.0)) }
     {
         match self.agent_at(agent) {
-            Some(found) => Ok(Some(found.with_one_more(kind)?)),
+            Some(found) => Ok(Some(found.with_one_queue_more(kind)?)),
             None => Ok(None),
         }
     }
@@ -185,17 +185,17 @@ impl Core {
     }
 
     /// An end of this kind went from this place.
-    pub(crate) fn went_from(&mut self, kind: Kind, place: Place)
+    pub(crate) fn decrease_queue_count(&mut self, kind: Kind, place: Place)
         ensures { self.new ≡ record self.old { agents = gone kind place self.old.agents } }
     {
         if let Place::With(agent) = place {
             if let Some(found) = self.agents.get_mut(agent.0 as usize) {
-                *found = found.with_one_less(kind);
+                *found = found.with_one_queue_less(kind);
             }
         }
     }
 
-    pub(crate) fn order(&mut self, agent: AgentId) -> Outcome
+    pub(crate) fn request_agent_stop(&mut self, agent: AgentId) -> Outcome
         ensures { (result ≡ order_answer (seen self.old) agent)
             × (self.new ≡ core_after self.old result (action.Order agent)) }
     {
@@ -214,7 +214,7 @@ impl Core {
     }
 
     /// An agent looks whether it was ordered to end.
-    pub(crate) fn see(&mut self, agent: AgentId) -> Result<Outcome, OutOfMemory>
+    pub(crate) fn stop_agent_if_requested(&mut self, agent: AgentId) -> Result<Outcome, OutOfMemory>
         ensures { let away = kept_away (slice_get self.old.agents agent.0) in
             MatchResult result
             (λ o. (o ≡ see_answer (away == 0) (seen self.old) agent)
@@ -248,13 +248,13 @@ impl Core {
     {
         let mut ends = Vec::new(self.alloc);
         for (number, end) in self.ends.iter().enumerate() {
-            add_where(&mut ends, end.place.is_at(agent), number)?;
+            add_end_if(&mut ends, end.place.is_at(agent), number)?;
         }
-        Ok(Items::of(ends))
+        Ok(Items::of_list(ends))
     }
 
     /// The agent, running or ending, whose poster a line has.
-    pub(crate) fn owner_of(&self, sender: Sender) -> Option<AgentId>
+    pub(crate) fn owner_of_line(&self, sender: Sender) -> Option<AgentId>
         ensures { result ≡ owner (seen self.now) sender.end.0 sender.line.0 }
     {
         let end = self.end_at(sender.end)?;
@@ -269,7 +269,7 @@ impl Core {
     }
 
     /// A poster of the agent came to this phase: it is away now, or it left.
-    pub(crate) fn record_phase(&mut self, owner: Option<AgentId>, phase: Phase)
+    pub(crate) fn record_poster_phase(&mut self, owner: Option<AgentId>, phase: Phase)
         ensures { self.new ≡ record self.old {
           agents = change_owner (counted phase) owner self.old.agents;
         } }
@@ -278,13 +278,13 @@ impl Core {
             return;
         };
         if let Some(found) = self.agent_at(agent).copied() {
-            self.set_agent(agent, Some(found.with_phase(phase)));
+            self.set_agent(agent, Some(found.after_poster_phase_change(phase)));
         }
     }
 }
 
 /// Adds the number of an end where it is asked for.
-fn add_where(ends: &mut Vec<EndId>, is_asked: bool, number: usize) -> Result<(), OutOfMemory>
+fn add_end_if(ends: &mut Vec<EndId>, is_asked: bool, number: usize) -> Result<(), OutOfMemory>
     ensures { OnOk result (ends.new.items
         ≡ ends.old.items ++ (if is_asked then record { 0 = number } ∷ [] else [])) }
 {

@@ -38,7 +38,7 @@ impl Core {
         if !self.is_running(agent) || self.roster.cast.is_some() {
             return Ok(Outcome::NotNow);
         }
-        if !self.roster.members.has_origin(agent) {
+        if !self.roster.members.has_origin_of_agent(agent) {
             return Ok(Outcome::NoOrigin);
         }
         let number = self.ends.len();
@@ -50,7 +50,7 @@ impl Core {
         }
         self.ends.reserve(1)?;
         // Only a step that makes an end takes memory for its group.
-        let Some(group) = self.roster.members.group_named(agent, name)? else {
+        let Some(group) = self.roster.members.group_for_agent_and_name(agent, name)? else {
             return Ok(Outcome::NoOrigin);
         };
         let end = End::new(self.alloc, agent, Kind::Member(agent))?;
@@ -78,8 +78,8 @@ impl Core {
         }
         let ends = self.roster.members.others(self.alloc, end.0)?;
         let left = to_deque(self.alloc, &ends)?;
-        self.roster.begin(end, body, left);
-        Ok(Outcome::Destinations(Items::of(ends)))
+        self.roster.begin_cast(end, body, left);
+        Ok(Outcome::Destinations(Items::of_list(ends)))
     }
 
     /// What a cast is answered that doesn't begin.
@@ -90,7 +90,7 @@ impl Core {
         ensures refused { (body : List ℕ) → IfSome result (λ o.
             core_after self.now o (action.Cast end ports.now body) ≡ self.now) }
     {
-        if self.maker_of(end).is_none() || self.roster.cast.is_some() {
+        if self.maker_of_member(end).is_none() || self.roster.cast.is_some() {
             return Some(Outcome::NotNow);
         }
         if !self.roster.members.has(end.0) || self.is_closed(end) {
@@ -106,10 +106,10 @@ impl Core {
     }
 
     /// The agent that made a broadcast channel.
-    pub(crate) fn maker_of(&self, end: EndId) -> Option<AgentId>
+    pub(crate) fn maker_of_member(&self, end: EndId) -> Option<AgentId>
         ensures { result ≡ maker_of ((seen self.now).end end.0).kind }
     {
-        self.end_at(end)?.kind.maker()
+        self.end_at(end)?.kind.maker_of_member()
     }
 
     fn is_closed(&self, end: EndId) -> bool

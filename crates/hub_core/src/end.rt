@@ -52,7 +52,7 @@ impl Place {
     }
 
     /// Whether an end of this place can be closed.
-    pub(crate) fn is_here(self) -> bool
+    pub(crate) fn is_closable(self) -> bool
         ensures { result ≡ is_here (Some self) }
     {
         matches!(self, Place::With(_) | Place::Arrived(_) | Place::Swept)
@@ -91,14 +91,14 @@ impl End {
             newest: 0,
             taker: 0,
             looked: 0,
-            lines: Lines::new(alloc, kind.lines())?,
-            queues: Queues::one(alloc)?,
+            lines: Lines::new(alloc, kind.line_count())?,
+            queues: Queues::one_empty_queue(alloc)?,
         })
     }
 
     /// The queue that a look looks at: the first that isn't clear among the retired ones from the
     /// taker's on, and the newest where the end is closed.
-    pub(crate) fn next_epoch(&self) -> Option<u32>
+    pub(crate) fn next_unclear_queue(&self) -> Option<u32>
         ensures { result ≡ kept_looked self.now }
     {
         let newest = u64::from(self.newest);
@@ -110,29 +110,33 @@ impl End {
     }
 
     /// Whether nobody is inside or being turned back at a queue, or it is clear.
-    pub(crate) fn is_settled(&self, epoch: u32) -> bool
+    pub(crate) fn is_queue_free_of_posters(&self, epoch: u32) -> bool
         ensures { result ≡ kept_settled self.now epoch }
     {
-        u64::from(epoch) < self.looked || !self.lines.is_anyone_at(epoch)
+        u64::from(epoch) < self.looked || !self.lines.has_poster_at_queue(epoch)
     }
 
     /// The taker goes on to the next queue.
-    pub(crate) fn advance(&mut self)
+    pub(crate) fn advance_to_next_queue(&mut self)
         requires { self.old.taker < self.old.newest }
         ensures { self.new ≡ advanced_end self.old }
     {
         self.taker += 1;
         self.looked = self.looked.max(u64::from(self.taker));
-        self.queues.drop_first();
+        self.queues.drop_first_queue();
     }
 
     /// The agent has the end, with a new, disabled queue.
-    pub(crate) fn renew(&mut self, alloc: Global, agent: AgentId) -> Result<(), OutOfMemory>
+    pub(crate) fn adopt_with_new_queue(
+        &mut self,
+        alloc: Global,
+        agent: AgentId,
+    ) -> Result<(), OutOfMemory>
         requires { self.old.newest < MAX_MOVES }
         ensures ok { OnOk result (self.new ≡ adopted_end agent self.old) }
         ensures err { OnErr result (self.new ≡ self.old) }
     {
-        self.queues.add(alloc)?;
+        self.queues.add_empty_queue(alloc)?;
         self.newest += 1;
         self.place = Place::With(agent);
         self.is_enabled = false;
@@ -140,18 +144,21 @@ impl End {
     }
 
     /// Whether a queue is one of those that are kept.
-    fn has_queue(&self, epoch: u32) -> bool
+    fn has_queue_of_epoch(&self, epoch: u32) -> bool
         ensures { result ≡ has_queue self.now epoch }
     {
-        epoch >= self.taker && ((epoch - self.taker) as usize) < self.queues.count()
+        epoch >= self.taker && ((epoch - self.taker) as usize) < self.queues.queue_count()
     }
 
     /// The line, where its poster is inside a queue of the end and no notice was put.
-    pub(crate) fn posting_line(&self, line: LineId) -> Option<Line>
+    pub(crate) fn line_if_poster_inside(&self, line: LineId) -> Option<Line>
         ensures { result ≡ posting_line self.now (slice_get self.now.lines line.0) }
     {
         let found = self.lines.get(line)?;
-        if found.phase == Phase::Inside && !found.has_noticed && self.has_queue(found.epoch) {
+        if found.phase == Phase::Inside
+            && !found.has_noticed
+            && self.has_queue_of_epoch(found.epoch)
+        {
             Some(found)
         } else {
             None

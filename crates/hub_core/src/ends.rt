@@ -58,11 +58,11 @@ impl Core {
         if !found.is_enabled {
             return Outcome::Disabled;
         }
-        self.serve(end, agent)
+        self.deliver_next_envelope(end, agent)
     }
 
     /// Gives its agent the next envelope of an open, enabled end.
-    fn serve(&mut self, end: EndId, agent: AgentId) -> Outcome
+    fn deliver_next_envelope(&mut self, end: EndId, agent: AgentId) -> Outcome
         requires { holder (seen self.old) end.0 ≡ Some agent }
         ensures outcome { ServesAt (slice_get self.old.ends end.0) result }
         ensures new { self.new ≡ core_after self.old result (action.Take end) }
@@ -74,16 +74,16 @@ impl Core {
                 Outcome::Got(envelope)
             }
             None if served.taker >= served.newest => Outcome::Empty,
-            None if !served.is_settled(served.taker) => Outcome::Busy,
+            None if !served.is_queue_free_of_posters(served.taker) => Outcome::Busy,
             None => {
-                served.advance();
+                served.advance_to_next_queue();
                 Outcome::Again
             }
         }
     }
 
     /// The queue that is looked at becomes clear where nobody is inside or being turned back there.
-    pub(crate) fn look(&mut self, end: EndId) -> Outcome
+    pub(crate) fn mark_next_queue_clear(&mut self, end: EndId) -> Outcome
         ensures { let found = slice_get self.old.ends end.0 in
             let epoch = option_and_then kept_looked found in
             let looked = found_at (λ k. is_anyone_at k (kept_lines found)) epoch in
@@ -96,10 +96,10 @@ impl Core {
         if !found.is_closed && found.taker >= found.newest {
             return Outcome::NotNow;
         }
-        let Some(epoch) = found.next_epoch() else {
+        let Some(epoch) = found.next_unclear_queue() else {
             return Outcome::Clear(None);
         };
-        if found.lines.is_anyone_at(epoch) {
+        if found.lines.has_poster_at_queue(epoch) {
             return Outcome::Busy;
         }
         self.ends[end.0 as usize].looked += 1;
@@ -119,17 +119,17 @@ impl Core {
         if !found.is_closed {
             return Ok(Outcome::NotNow);
         }
-        if found.lines.is_anyone_from(found.looked) {
+        if found.lines.has_poster_from_queue_on(found.looked) {
             return Ok(Outcome::Busy);
         }
         let swept = &mut self.ends[end.0 as usize];
         let envelopes = swept.queues.take_all(self.alloc)?;
-        self.mark_swept(envelopes.as_slice());
+        self.mark_ports_swept(envelopes.as_slice());
         Ok(Outcome::Discarded(envelopes))
     }
 
     /// Gives each port that the envelopes name its place.
-    fn mark_swept(&mut self, envelopes: &[Envelope])
+    fn mark_ports_swept(&mut self, envelopes: &[Envelope])
         ensures { self.new ≡ record self.old {
           ends = moved_ends (ports_of envelopes.now) Place.Swept self.old.ends;
         } }
@@ -167,14 +167,14 @@ impl Core {
             return Ok(Outcome::NoMemory);
         }
         let newest = found.newest + 1;
-        let adopting = self.adopting(found.kind, agent)?;
-        self.renew(end, agent)?;
+        let adopting = self.agent_after_adoption(found.kind, agent)?;
+        self.adopt_with_new_queue(end, agent)?;
         self.set_agent(agent, adopting);
         Ok(Outcome::Adopted(newest))
     }
 
     /// The agent has the end, with a new, disabled queue.
-    fn renew(&mut self, end: EndId, agent: AgentId) -> Result<(), OutOfMemory>
+    fn adopt_with_new_queue(&mut self, end: EndId, agent: AgentId) -> Result<(), OutOfMemory>
         requires { IfSome (slice_get self.old.ends end.0) (λ x. x.newest < MAX_MOVES) }
         ensures ok { OnOk result (self.new ≡ record self.old {
           ends = change_at (adopted_end agent) end.0 self.old.ends;
@@ -182,20 +182,22 @@ impl Core {
         ensures err { OnErr result (self.new ≡ self.old) }
     {
         match self.ends.get_mut(end.0 as usize) {
-            Some(found) => found.renew(self.alloc, agent),
+            Some(found) => found.adopt_with_new_queue(self.alloc, agent),
             None => Ok(()),
         }
     }
 
     /// The agent, after an end of this kind came to it: of a port with its own poster away that
     /// poster is the agent's.
-    fn adopting(&self, kind: Kind, agent: AgentId) -> Result<Option<Agent>, OutOfMemory>
+    fn agent_after_adoption(&self, kind: Kind, agent: AgentId) -> Result<Option<Agent>, OutOfMemory>
         ensures { let released = is_released (seen self.now).line (Some kind) in
             IfOk result (λ found. found
             ≡ option_map (adopting released kind) (slice_get self.now.agents agent.0)) }
     {
-        match self.with_one_more(kind, agent)? {
-            Some(found) if !self.is_released(kind) => Ok(Some(found.with_phase(Phase::Inside))),
+        match self.agent_with_one_queue_more(kind, agent)? {
+            Some(found) if !self.is_own_poster_out(kind) => Ok(Some(found.after_poster_phase_change(
+                Phase::Inside,
+            ))),
             found => Ok(found),
         }
     }
@@ -218,7 +220,7 @@ impl Core {
         let found = &mut self.ends[end.0 as usize];
         found.is_closed = true;
         found.place = Place::Gone;
-        self.went_from(kind, place);
+        self.decrease_queue_count(kind, place);
         Outcome::Done
     }
 
@@ -228,11 +230,11 @@ impl Core {
         let Some(found) = self.end_at(end) else {
             return false;
         };
-        found.place.is_here() && self.is_released(found.kind)
+        found.place.is_closable() && self.is_own_poster_out(found.kind)
     }
 
     /// Whether an end of this kind is no port whose own poster is inside or being turned back.
-    fn is_released(&self, kind: Kind) -> bool
+    fn is_own_poster_out(&self, kind: Kind) -> bool
         ensures { result ≡ is_released (seen self.now).line (Some kind) }
     {
         let Kind::Port(peer) = kind else {
@@ -246,7 +248,7 @@ impl Core {
             == Phase::Out
     }
 
-    pub(crate) fn hand(&mut self, end: EndId, agent: AgentId) -> Outcome
+    pub(crate) fn hand_over_queue(&mut self, end: EndId, agent: AgentId) -> Outcome
         ensures { (result ≡ hand_answer (seen self.old) end agent)
             × (self.new ≡ core_after self.old result (action.Hand end agent)) }
     {
@@ -261,7 +263,7 @@ impl Core {
         }
         let kind = found.kind;
         let place = found.place;
-        self.went_from(kind, place);
+        self.decrease_queue_count(kind, place);
         self.set_place(end, Place::Arrived(agent));
         Outcome::Handed
     }

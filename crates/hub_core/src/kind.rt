@@ -19,7 +19,7 @@ pub enum Kind {
 
 impl Kind {
     /// The port that posts at an end of this kind, where one does.
-    pub(crate) fn source(self) -> Option<EndId>
+    pub(crate) fn peer_port(self) -> Option<EndId>
         ensures { option_map (λ q. q.0) result ≡ peer_of (Some self) }
     {
         match self {
@@ -29,7 +29,7 @@ impl Kind {
     }
 
     /// The agent that made an end of this kind, where it is a member of the roster.
-    pub(crate) fn maker(self) -> Option<AgentId>
+    pub(crate) fn maker_of_member(self) -> Option<AgentId>
         ensures { result ≡ maker_of (Some self) }
     {
         match self {
@@ -46,7 +46,7 @@ impl Kind {
     }
 
     /// How many lines an end of this kind has.
-    pub(crate) fn lines(self) -> usize
+    pub(crate) fn line_count(self) -> usize
         ensures { result ≡ lines_of (Some self) }
     {
         match self {

@@ -47,7 +47,7 @@ pub fn gate_machine_laws<R>()
 /// What holds of every mailbox machine whose gates have rights `R`: line by line, what was taken
 /// out of its chain of queues is a prefix of what was put there. The function does nothing; the
 /// laws are its contract.
-pub fn chain_laws<R>()
+pub fn mailbox_chain_laws<R>()
     ensures { ChainLaws R }
 {}
 
@@ -66,6 +66,6 @@ pub fn mailbox_laws()
 
 /// What each pair of a legal history is to the mailbox of an end: events there, or nothing. The
 /// function does nothing; the law is its contract.
-pub fn pair_laws()
+pub fn history_pair_laws()
     ensures { PairsAreEvents }
 {}

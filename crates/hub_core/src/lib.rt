@@ -21,7 +21,10 @@ mod step;
 
 pub use hub_envelope::OutOfMemory;
 pub use kind::Kind;
-pub use laws::{chain_laws, gate_machine_laws, history_laws, mailbox_laws, pair_laws, queue_laws};
+pub use laws::{
+    gate_machine_laws, history_laws, history_pair_laws, mailbox_chain_laws, mailbox_laws,
+    queue_laws,
+};
 pub use machine::Core;
 pub use runs::run;
 pub use step::{Acceptance, Action, Listing, Outcome, Sender, Step};

@@ -75,7 +75,7 @@ impl Lines {
     }
 
     /// Whether the poster of some line is inside or being turned back at a queue.
-    pub(crate) fn is_anyone_at(&self, epoch: u32) -> bool
+    pub(crate) fn has_poster_at_queue(&self, epoch: u32) -> bool
         ensures { result ≡ is_anyone_at epoch self.now }
     {
         self.lines
@@ -84,7 +84,7 @@ impl Lines {
     }
 
     /// Whether the poster of some line is inside or being turned back at a queue from this one on.
-    pub(crate) fn is_anyone_from(&self, epoch: u64) -> bool
+    pub(crate) fn has_poster_from_queue_on(&self, epoch: u64) -> bool
         ensures { result ≡ is_anyone_from epoch self.now }
     {
         self.lines.iter().any(|line| line.phase != Phase::Out && u64::from(line.epoch) >= epoch)
@@ -94,13 +94,13 @@ impl Lines {
     pub(crate) fn first_free(&self) -> Option<LineId>
         ensures { option_map (λ l. l.0) result ≡ first_free self.now }
     {
-        match self.first_unheld() {
+        match self.first_free_position() {
             Some(position) if position < MAX_LINES => Some(LineId(position as u8)),
             _ => None,
         }
     }
 
-    fn first_unheld(&self) -> Option<usize>
+    fn first_free_position(&self) -> Option<usize>
         ensures { result ≡ position (λ y. not (is_some y.held_by)) self.now }
     {
         self.lines.iter().position(|line| line.held_by.is_none())

@@ -1,13 +1,13 @@
 //! The core, its dispatch, what several families of steps ask of agents, ends and lines, and what a
 //! core may be asked.
 //!
-//! A post is the steps Enter, Push and Leave of one line. `Core::enter` (`posting.rt`) asks
-//! `Core::may_enter`, and answers `In`, or `Moved` at a retired queue and `Closed` at a closed end,
-//! where the poster isn't inside but has to leave as well. `Core::push` makes its tests in
-//! `Core::posting`. `Core::accept` puts the envelope in its queue (`End::put`) and its ports in
-//! flight, which is answered `Accepted`; `TooManyPorts` and `NoMemory` change nothing.
-//! `Core::leave` answers `Left`. Each of the three is answered `NotNow`, with nothing changed,
-//! where it can't be taken.
+//! A post is the steps Enter, Push and Leave of one line. `Core::enter_queue` (`posting.rt`) asks
+//! `Core::may_poster_enter`, and answers `In`, or `Moved` at a retired queue and `Closed` at a
+//! closed end, where the poster isn't inside but has to leave as well. `Core::push` makes its tests
+//! in `Core::check_push`. `Core::put_with_ports` puts the envelope in its queue (`End::put`) and
+//! its ports in flight, which is answered `Accepted`; `TooManyPorts` and `NoMemory` change nothing.
+//! `Core::leave_queue` answers `Left`. Each of the three is answered `NotNow`, with nothing
+//! changed, where it can't be taken.
 //!
 //! What a function answers is said by the definitions that a history is held to, over what the
 //! core keeps seen as facts (`seen`); what it changes is one table (`core_after`). The two stand in
@@ -127,22 +127,22 @@ impl Core {
             Action::Client(agent) => self.make_queue(Kind::Client, agent, memory_refused),
             Action::Worker(agent) => self.make_queue(Kind::Worker, agent, memory_refused),
             Action::Member(agent, name) => self.make_member(agent, name, memory_refused),
-            Action::Line(end, agent) => Ok(self.hold(end, agent)),
-            Action::Back(sender) => Ok(self.give_back(sender)),
-            Action::Enter(sender) => Ok(self.enter(sender)),
+            Action::Line(end, agent) => Ok(self.hold_free_line(end, agent)),
+            Action::Back(sender) => Ok(self.release_line(sender)),
+            Action::Enter(sender) => Ok(self.enter_queue(sender)),
             Action::Push(sender, ports, body) => self.push(sender, ports, body, memory_refused),
-            Action::Notice(sender) => self.notice(sender, memory_refused),
-            Action::Leave(sender) => Ok(self.leave(sender)),
-            Action::Hop(sender) => Ok(self.hop(sender)),
+            Action::Notice(sender) => self.put_notice(sender, memory_refused),
+            Action::Leave(sender) => Ok(self.leave_queue(sender)),
+            Action::Hop(sender) => Ok(self.move_line_to_next_queue(sender)),
             Action::Start(end) => Ok(self.start(end)),
             Action::Take(end) => Ok(self.take(end)),
-            Action::Look(end) => Ok(self.look(end)),
+            Action::Look(end) => Ok(self.mark_next_queue_clear(end)),
             Action::Adopt(end, agent) => self.adopt(end, agent, memory_refused),
             Action::Close(end) => Ok(self.close(end)),
             Action::Sweep(end) => self.sweep(end),
-            Action::Hand(end, agent) => Ok(self.hand(end, agent)),
-            Action::Order(agent) => Ok(self.order(agent)),
-            Action::See(agent) => self.see(agent),
+            Action::Hand(end, agent) => Ok(self.hand_over_queue(end, agent)),
+            Action::Order(agent) => Ok(self.request_agent_stop(agent)),
+            Action::See(agent) => self.stop_agent_if_requested(agent),
             Action::Cast(end, ports, body) => self.cast(end, ports, body),
             Action::Part(end) => Ok(self.leave_roster(end)),
         }
@@ -150,10 +150,10 @@ impl Core {
 
     /// The line that a port posts on: line 0 of the port that it is entangled with. `None` where
     /// the number names no port.
-    pub fn sender_of(&self, port: EndId) -> Option<Sender>
+    pub fn line_of_port(&self, port: EndId) -> Option<Sender>
         ensures { (h : History) → Shows self.now h → result ≡ line_of_port h port.0 }
     {
-        let end = self.end_at(port)?.kind.source()?;
+        let end = self.end_at(port)?.kind.peer_port()?;
         let line = LineId(0);
         Some(Sender { end, line })
     }
@@ -196,7 +196,7 @@ impl Core {
     /// The agent that posts on a line of an end of this kind, where one does: for a port's line the
     /// running one that has the port at the other side; for a channel's the one, running or ending,
     /// whose cast goes there next.
-    pub(crate) fn poster_by(
+    pub(crate) fn posting_agent_by_kind(
         &self,
         sender: Sender,
         kind: Kind,
@@ -211,19 +211,19 @@ impl Core {
             Kind::Port(peer) if sender.line.0 == 0 => self.running_holder(peer),
             Kind::Client | Kind::Worker => held_by.filter(|agent| self.is_running(*agent)),
             Kind::Member(_) if sender.line.0 == 0 => {
-                self.maker_of(self.roster.source_for(sender.end)?)
+                self.maker_of_member(self.roster.source_of_cast_to(sender.end)?)
             }
             Kind::Port(_) | Kind::Member(_) => None,
         }
     }
 
     /// The agent that posts on a line, where one does.
-    pub(crate) fn poster_of(&self, sender: Sender) -> Option<AgentId>
+    pub(crate) fn posting_agent(&self, sender: Sender) -> Option<AgentId>
         ensures { result ≡ poster (seen self.now) sender }
     {
         let end = self.end_at(sender.end)?;
         let line = end.lines.get(sender.line).unwrap_or(Line::FIRST);
-        self.poster_by(sender, end.kind, line.held_by)
+        self.posting_agent_by_kind(sender, end.kind, line.held_by)
     }
 
     /// What is kept of a line. Where there is none it is one that has put nothing.
@@ -247,11 +247,11 @@ impl Core {
     }
 
     /// Whether an end has a place where it can be closed.
-    pub(crate) fn is_here(&self, end: EndId) -> bool
+    pub(crate) fn is_place_closable(&self, end: EndId) -> bool
         ensures { result ≡ is_here ((seen self.now).end end.0).place }
     {
         match self.end_at(end) {
-            Some(end) => end.place.is_here(),
+            Some(end) => end.place.is_closable(),
             None => false,
         }
     }
@@ -264,16 +264,16 @@ impl Core {
             return false;
         };
         match end.kind {
-            Kind::Port(peer) => sender.line.0 == 0 && self.is_here(peer),
+            Kind::Port(peer) => sender.line.0 == 0 && self.is_place_closable(peer),
             Kind::Client | Kind::Worker | Kind::Member(_) => false,
         }
     }
 
     /// Whether a poster may enter: to post, or to put a notice alone.
-    pub(crate) fn may_enter(&self, sender: Sender) -> bool
+    pub(crate) fn may_poster_enter(&self, sender: Sender) -> bool
         ensures { result ≡ may_enter (seen self.now) sender }
     {
-        self.poster_of(sender).is_some() || self.may_put_notice(sender)
+        self.posting_agent(sender).is_some() || self.may_put_notice(sender)
     }
 
     /// Whether a message may be posted on a line now: an agent that may post holds it, its poster
@@ -282,21 +282,21 @@ impl Core {
         ensures { (h : History) → Shows self.now h → result ≡ may_post (facts h) sender }
     {
         let line = self.line_at(sender);
-        self.poster_of(sender).is_some() && line.phase == Phase::Out && !line.has_noticed
+        self.posting_agent(sender).is_some() && line.phase == Phase::Out && !line.has_noticed
     }
 
     /// What a list of ports is to a message on a line now. Where no agent that may post holds the
     /// line each list is bad.
-    pub fn listing(&self, sender: Sender, ports: &[EndId]) -> Listing
+    pub fn check_port_list(&self, sender: Sender, ports: &[EndId]) -> Listing
         ensures { (h : History) → Shows self.now h → result ≡ listing (facts h) sender ports.now }
     {
         let Some(end) = self.end_at(sender.end) else {
             return Listing::Bad;
         };
-        let Some(agent) = self.poster_of(sender) else {
+        let Some(agent) = self.posting_agent(sender) else {
             return Listing::Bad;
         };
-        self.listing_to(sender, end.kind, agent, ports)
+        self.check_port_list_of_agent(sender, end.kind, agent, ports)
     }
 
     /// What an end is, where there is one.

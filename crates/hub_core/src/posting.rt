@@ -28,11 +28,11 @@ struct Posting {
 }
 
 impl Core {
-    pub(crate) fn enter(&mut self, sender: Sender) -> Outcome
+    pub(crate) fn enter_queue(&mut self, sender: Sender) -> Outcome
         ensures { (result ≡ enter_answer (seen self.old) sender)
             × (self.new ≡ core_after self.old result (action.Enter sender)) }
     {
-        if !self.may_enter(sender) {
+        if !self.may_poster_enter(sender) {
             return Outcome::NotNow;
         }
         let Some(end) = self.end_at(sender.end) else {
@@ -49,14 +49,14 @@ impl Core {
         } else {
             (Phase::Inside, Outcome::In)
         };
-        let owner = self.owner_of(sender);
+        let owner = self.owner_of_line(sender);
         // The line is written right after it was read, so that it is looked for once.
         self.set_line(sender, Line { phase, ..found });
-        self.record_phase(owner, phase);
+        self.record_poster_phase(owner, phase);
         outcome
     }
 
-    pub(crate) fn leave(&mut self, sender: Sender) -> Outcome
+    pub(crate) fn leave_queue(&mut self, sender: Sender) -> Outcome
         ensures { (result ≡ leave_answer (seen self.old) sender)
             × (self.new ≡ core_after self.old result (action.Leave sender)) }
     {
@@ -65,19 +65,19 @@ impl Core {
             return Outcome::NotNow;
         }
         let phase = Phase::Out;
-        let owner = self.owner_of(sender);
+        let owner = self.owner_of_line(sender);
         self.set_line(sender, Line { phase, ..found });
-        self.record_phase(owner, phase);
+        self.record_poster_phase(owner, phase);
         self.roster.advance_cast(sender.end);
         Outcome::Left
     }
 
     /// A line that is out goes on from a retired queue to the next one.
-    pub(crate) fn hop(&mut self, sender: Sender) -> Outcome
+    pub(crate) fn move_line_to_next_queue(&mut self, sender: Sender) -> Outcome
         ensures { (result ≡ hop_answer (seen self.old) sender)
             × (self.new ≡ core_after self.old result (action.Hop sender)) }
     {
-        if !self.may_enter(sender) {
+        if !self.may_poster_enter(sender) {
             return Outcome::NotNow;
         }
         let Some(end) = self.end_at(sender.end) else {
@@ -115,7 +115,7 @@ impl Core {
             × (self.new ≡ core_after self.old o (action.Push sender ports body)))
             (λ _. self.new ≡ self.old) }
     {
-        match self.posting(sender, ports.as_slice(), &body, memory_refused) {
+        match self.check_push(sender, ports.as_slice(), &body, memory_refused) {
             Ok(Posting { line, agent }) => {
                 let ports = Ports::of_list(ports.into_list()).unwrap();
                 let accepted = Acceptance {
@@ -133,7 +133,7 @@ impl Core {
                     ports,
                     notice: false,
                 };
-                self.accept(line, envelope)?;
+                self.put_with_ports(line, envelope)?;
                 Ok(Outcome::Accepted(accepted))
             }
             Err(refusal) => Ok(refusal),
@@ -142,7 +142,7 @@ impl Core {
 
     /// The line, where its poster may push with these ports now, and the agent that posts; or what
     /// the push is answered.
-    fn posting(
+    fn check_push(
         &self,
         sender: Sender,
         ports: &[EndId],
@@ -159,16 +159,18 @@ impl Core {
             × HasQueue self.now.ends sender p.line)
             (λ o. core_after self.now o pushing ≡ self.now) }
     {
-        let Some((kind, line)) = self.posting_line(sender) else {
+        let Some((kind, line)) = self.line_if_poster_inside(sender) else {
             return Err(Outcome::NotNow);
         };
-        let Some(agent) = self.poster_by(sender, kind, line.held_by) else {
+        let Some(agent) = self.posting_agent_by_kind(sender, kind, line.held_by) else {
             return Err(Outcome::NotNow);
         };
         if ports.len() > MAX_PORTS {
             return Err(Outcome::TooManyPorts);
         }
-        if !self.is_good_list(sender, kind, agent, ports) || !self.is_fitting(kind, ports, body) {
+        if !self.is_good_list(sender, kind, agent, ports)
+            || !self.may_kind_receive(kind, ports, body)
+        {
             return Err(Outcome::NotNow);
         }
         if memory_refused {
@@ -178,7 +180,7 @@ impl Core {
     }
 
     /// The line, where its poster is inside and no notice was put, and what its end is.
-    fn posting_line(&self, sender: Sender) -> Option<(Kind, Line)>
+    fn line_if_poster_inside(&self, sender: Sender) -> Option<(Kind, Line)>
         ensures answer { result ≡ posting_at sender (slice_get self.now.ends sender.end.0) }
         ensures there { IfSome result (λ p. (sender.end.0 < length self.now.ends)
             × HasQueue self.now.ends sender p.1
@@ -187,23 +189,23 @@ impl Core {
             × ((seen self.now).line sender.end.0 sender.line.0 ≡ line_now (Some p.1))) }
     {
         let end = self.end_at(sender.end)?;
-        let line = end.posting_line(sender.line)?;
+        let line = end.line_if_poster_inside(sender.line)?;
         Some((end.kind, line))
     }
 
     /// Whether a message may go to an end of this kind: to a broadcast channel only the body of the
     /// cast, with no ports.
-    fn is_fitting(&self, kind: Kind, ports: &[EndId], body: &Body) -> bool
+    fn may_kind_receive(&self, kind: Kind, ports: &[EndId], body: &Body) -> bool
         ensures { result ≡ is_fitting self.now.roster.cast (Some kind) ports.now body.now }
     {
         match kind {
             Kind::Port(_) | Kind::Client | Kind::Worker => true,
-            Kind::Member(_) => ports.is_empty() && self.roster.is_cast(body),
+            Kind::Member(_) => ports.is_empty() && self.roster.is_body_of_cast(body),
         }
     }
 
     /// Puts a notice, where its poster may put it now.
-    pub(crate) fn notice(
+    pub(crate) fn put_notice(
         &mut self,
         sender: Sender,
         memory_refused: bool,
@@ -215,7 +217,7 @@ impl Core {
             × (self.new ≡ core_after self.old o (action.Notice sender)))
             (λ _. self.new ≡ self.old) }
     {
-        let Some((_, line)) = self.posting_line(sender) else {
+        let Some((_, line)) = self.line_if_poster_inside(sender) else {
             return Ok(Outcome::NotNow);
         };
         if !self.may_put_notice(sender) {
@@ -239,12 +241,12 @@ impl Core {
             ports: Ports::none(self.alloc),
             notice: true,
         };
-        self.accept(line, envelope)?;
+        self.put_with_ports(line, envelope)?;
         Ok(Outcome::Accepted(accepted))
     }
 
     /// Puts an envelope on a line, and its ports in flight.
-    fn accept(&mut self, line: Line, envelope: Envelope) -> Result<(), OutOfMemory>
+    fn put_with_ports(&mut self, line: Line, envelope: Envelope) -> Result<(), OutOfMemory>
         requires there { envelope.end.0 < length self.old.ends }
         requires queue { HasQueue self.old.ends
             (record { end = envelope.end; line = envelope.line }) line }
@@ -286,11 +288,15 @@ impl Core {
         ensures { let list = listing_of (seen self.now) sender ports.now agent in
             result ≡ is_good list }
     {
-        ports.is_empty() || matches!(self.listing_to(sender, kind, agent, ports), Listing::Good)
+        ports.is_empty()
+            || matches!(
+                self.check_port_list_of_agent(sender, kind, agent, ports),
+                Listing::Good
+            )
     }
 
     /// What a list of ports is to a message of an agent on a line of an end of this kind.
-    pub(crate) fn listing_to(
+    pub(crate) fn check_port_list_of_agent(
         &self,
         sender: Sender,
         kind: Kind,
@@ -300,7 +306,7 @@ impl Core {
         requires { ((seen self.now).end sender.end.0).kind ≡ Some kind }
         ensures { result ≡ listing_of (seen self.now) sender ports.now agent }
     {
-        if !self.may_all_travel(sender, kind.source(), agent, ports) {
+        if !self.may_all_travel(sender, kind.peer_port(), agent, ports) {
             return Listing::Bad;
         }
         if ports.contains(&sender.end) {
@@ -341,11 +347,13 @@ impl Core {
         let Some(end) = self.end_at(port) else {
             return false;
         };
-        end.place.is_with(agent) && self.is_free(end.kind) && !is_port(port, source)
+        end.place.is_with(agent)
+            && self.is_port_with_idle_poster(end.kind)
+            && !is_same_port(port, source)
     }
 
     /// Whether an end of this kind is a port whose own poster is out and has put no notice.
-    fn is_free(&self, kind: Kind) -> bool
+    fn is_port_with_idle_poster(&self, kind: Kind) -> bool
         ensures { let peer = peer_of (Some kind) in
             result ≡ is_free (seen self.now).line peer }
     {
@@ -381,7 +389,7 @@ impl Core {
 }
 
 /// Whether the port is this one, where there is one.
-fn is_port(port: EndId, other: Option<EndId>) -> bool
+fn is_same_port(port: EndId, other: Option<EndId>) -> bool
     ensures { result ≡ is_at port.0 (option_map (λ q. q.0) other) }
 {
     match other {

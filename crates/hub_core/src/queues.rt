@@ -70,7 +70,7 @@ impl Model for Queues {
 
 impl Queues {
     /// One empty queue.
-    pub(crate) fn one(alloc: Global) -> Result<Queues, OutOfMemory>
+    pub(crate) fn one_empty_queue(alloc: Global) -> Result<Queues, OutOfMemory>
         ensures { IfOk result (λ queues. queues ≡ [] ∷ []) }
     {
         let mut queues = VecDeque::with_capacity(alloc, 1)?;
@@ -79,14 +79,14 @@ impl Queues {
     }
 
     /// How many queues there are.
-    pub(crate) fn count(&self) -> usize
+    pub(crate) fn queue_count(&self) -> usize
         ensures { result ≡ length self.now }
     {
         self.queues.len()
     }
 
     /// Adds an empty queue at the back.
-    pub(crate) fn add(&mut self, alloc: Global) -> Result<(), OutOfMemory>
+    pub(crate) fn add_empty_queue(&mut self, alloc: Global) -> Result<(), OutOfMemory>
         ensures { MatchResult result (λ _. self.new ≡ self.old ++ [] ∷ [])
             (λ _. self.new ≡ self.old) }
     {
@@ -95,7 +95,7 @@ impl Queues {
     }
 
     /// Drops the first queue.
-    pub(crate) fn drop_first(&mut self)
+    pub(crate) fn drop_first_queue(&mut self)
         ensures { self.new ≡ drop 1 self.old }
     {
         self.queues.pop_front();
@@ -127,8 +127,10 @@ impl Queues {
         ensures { IfOk result (λ n. n ≡ length (joined self.now)) }
     {
         let (front, back) = self.queues.as_slices();
-        let waiting = count_in(front)?;
-        waiting.checked_add(count_in(back)?).ok_or(OutOfMemory)
+        let waiting = envelope_count_in(front)?;
+        waiting
+            .checked_add(envelope_count_in(back)?)
+            .ok_or(OutOfMemory)
     }
 
     /// Takes all envelopes, queue after queue, and leaves no queue.
@@ -144,12 +146,12 @@ impl Queues {
                 envelopes.push(envelope).unwrap();
             }
         }
-        Ok(Items::of(envelopes))
+        Ok(Items::of_list(envelopes))
     }
 }
 
 /// How many envelopes wait in these queues.
-fn count_in(queues: &[Waiting]) -> Result<usize, OutOfMemory>
+fn envelope_count_in(queues: &[Waiting]) -> Result<usize, OutOfMemory>
     ensures { IfOk result (λ n. n ≡ length (joined queues.now)) }
 {
     let mut count: usize = 0;

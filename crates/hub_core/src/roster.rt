@@ -63,7 +63,7 @@ pub struct Members {
 
 impl Origins {
     /// The origin of an agent, where it has one.
-    fn of(&self, agent: AgentId) -> Option<&Text>
+    fn origin_of_agent(&self, agent: AgentId) -> Option<&Text>
         ensures { unwrap_or (slice_get self.now agent.0) None ≡ option_map (λ x. x.now) result }
     {
         self.origins.get(agent.0 as usize)?.as_ref()
@@ -96,14 +96,14 @@ impl Members {
     }
 
     /// Whether an agent has an origin.
-    pub(crate) fn has_origin(&self, agent: AgentId) -> bool
+    pub(crate) fn has_origin_of_agent(&self, agent: AgentId) -> bool
         ensures { result ≡ is_some (unwrap_or (slice_get self.now.origins agent.0) None) }
     {
-        self.origins.of(agent).is_some()
+        self.origins.origin_of_agent(agent).is_some()
     }
 
     /// The group of the agent's channels of a name; `None` where the agent has no origin.
-    pub(crate) fn group_named(
+    pub(crate) fn group_for_agent_and_name(
         &self,
         agent: AgentId,
         name: Text,
@@ -111,7 +111,7 @@ impl Members {
         ensures { let origin = unwrap_or (slice_get self.now.origins agent.0) None in
             IfOk result (λ group. group ≡ group_named origin name) }
     {
-        let Some(origin) = self.origins.of(agent) else {
+        let Some(origin) = self.origins.origin_of_agent(agent) else {
             return Ok(None);
         };
         let origin = origin.clone()?;
@@ -129,7 +129,7 @@ impl Members {
             (λ _. SameMembers number self.old self.new) }
     {
         self.groups.insert(number, group.clone()?)?;
-        match seat(alloc, &mut self.seated, number, group) {
+        match add_to_group(alloc, &mut self.seated, number, group) {
             Ok(()) => Ok(()),
             Err(error) => {
                 self.groups.remove(&number);
@@ -201,7 +201,7 @@ impl Model for Cast {
 
 impl Cast {
     /// Whether the cast goes to the end next.
-    fn goes_to(&self, end: EndId) -> bool
+    fn is_next_destination(&self, end: EndId) -> bool
         ensures { result ≡ is_first end.0 self.now.left }
     {
         match self.left.front() {
@@ -230,11 +230,11 @@ impl Roster {
     }
 
     /// The source of the cast that goes to the end next.
-    pub(crate) fn source_for(&self, end: EndId) -> Option<EndId>
+    pub(crate) fn source_of_cast_to(&self, end: EndId) -> Option<EndId>
         ensures { result ≡ source_for self.now.cast end.0 }
     {
         let cast = self.cast.as_ref()?;
-        if cast.goes_to(end) {
+        if cast.is_next_destination(end) {
             Some(cast.source)
         } else {
             None
@@ -242,7 +242,7 @@ impl Roster {
     }
 
     /// Whether the body is that of the cast.
-    pub(crate) fn is_cast(&self, body: &Body) -> bool
+    pub(crate) fn is_body_of_cast(&self, body: &Body) -> bool
         ensures { result ≡ has_body body.now self.now.cast }
     {
         match &self.cast {
@@ -252,7 +252,7 @@ impl Roster {
     }
 
     /// A cast goes to these destinations.
-    pub(crate) fn begin(&mut self, source: EndId, body: Body, left: VecDeque<EndId>)
+    pub(crate) fn begin_cast(&mut self, source: EndId, body: Body, left: VecDeque<EndId>)
         ensures { self.new ≡ record self.old { cast = cast_to source body left.items } }
     {
         self.cast = if left.is_empty() {
@@ -269,7 +269,7 @@ impl Roster {
         let Some(cast) = &mut self.cast else {
             return;
         };
-        if !cast.goes_to(end) {
+        if !cast.is_next_destination(end) {
             return;
         }
         cast.left.pop_front();
@@ -291,7 +291,7 @@ pub(crate) fn to_deque(alloc: Global, ends: &[EndId]) -> Result<VecDeque<EndId>,
 }
 
 /// The end has a seat in its group.
-fn seat(
+fn add_to_group(
     alloc: Global,
     seated: &mut BTreeMap<Group, BTreeSet<u32>>,
     number: u32,

@@ -98,9 +98,9 @@ module _ {V : Type 0} (name : V → Key) where
       one_more_put m mid vs names v is back put.free (put.distinct refl) free
 
   -- one more value was put, and its name was kept beside
-  pub put_next : (before mid now : Option (FinMap key_cmp V)) (vs : List V) (names names' : List Key) (v : V) → IsPut before mid vs names → names' ≡ names ++ name v ∷ []
+  pub put_and_push_key : (before mid now : Option (FinMap key_cmp V)) (vs : List V) (names names' : List Key) (v : V) → IsPut before mid vs names → names' ≡ names ++ name v ∷ []
       → now ≡ option_map (λ m. insert m (name v) v) mid → IfSome mid (λ m. IsNone (get m (name v))) → IsPut before now (vs ++ v ∷ []) names'
-  put_next before mid now vs names names' v put named is free =
+  put_and_push_key before mid now vs names names' v put named is free =
       subst (λ ns. IsPut before now (vs ++ v ∷ []) ns) (sym named)
       (subst (λ n. IsPut before n (vs ++ v ∷ []) (names ++ name v ∷ [])) (sym is) (put_more before mid vs names v put free))
 

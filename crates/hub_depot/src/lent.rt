@@ -11,7 +11,7 @@ use hub_locked::Lends;
 use std::sync::Wait;
 
 /// Keeps a value under its name: `Kept::put`. After an error what is kept is as it was.
-pub fn put_in<V: Named + Drop, L: Lends<Kept<V>>, R: Wait>(
+pub fn put_into_lent_map<V: Named + Drop, L: Lends<Kept<V>>, R: Wait>(
     rt: &R,
     lender: &mut L,
     value: V,
@@ -29,7 +29,11 @@ pub fn put_in<V: Named + Drop, L: Lends<Kept<V>>, R: Wait>(
 }
 
 /// Takes out the value of that name: `Kept::take`. It takes no memory.
-pub fn take_in<V: Named, L: Lends<Kept<V>>, R: Wait>(rt: &R, lender: &mut L, key: Key) -> Option<V>
+pub fn take_from_lent_map<V: Named, L: Lends<Kept<V>>, R: Wait>(
+    rt: &R,
+    lender: &mut L,
+    key: Key,
+) -> Option<V>
     ensures value { IfSome (L.shown lender.old) (λ kept. result ≡ map.get kept key) }
     ensures named { IfSome result (λ v. V.name v ≡ key) }
     ensures rest { L.shown lender.new

@@ -12,5 +12,5 @@ mod putting;
 
 pub use depot::Depot;
 pub use kept::{DepotError, Kept, Key, Named};
-pub use lent::{put_in, take_in};
-pub use putting::put_all;
+pub use lent::{put_into_lent_map, take_from_lent_map};
+pub use putting::put_all_or_none;

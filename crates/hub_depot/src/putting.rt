@@ -7,13 +7,13 @@ ghost use Rattle.hub_depot.specs.DepotError.{refused_value};
 ghost use Rattle.hub_depot.specs.Putting.{with_all, without_all, IsTakenAmong};
 
 use crate::kept::{DepotError, Kept, Key, Named};
-use crate::lent::{put_in, take_in};
+use crate::lent::{put_into_lent_map, take_from_lent_map};
 use hub_locked::Lends;
 use std::alloc::Global;
 use std::sync::Wait;
 
 /// Puts one more value, and its name behind those of the values before, or does neither.
-fn put_next<V: Named + Drop, L: Lends<Kept<V>>, R: Wait>(
+fn put_and_push_key<V: Named + Drop, L: Lends<Kept<V>>, R: Wait>(
     rt: &R,
     lender: &mut L,
     names: &mut Vec<Key>,
@@ -33,7 +33,7 @@ fn put_next<V: Named + Drop, L: Lends<Kept<V>>, R: Wait>(
     if names.push(value.name()).is_err() {
         return Err(DepotError::OutOfMemory(value));
     }
-    let put = put_in(rt, lender, value);
+    let put = put_into_lent_map(rt, lender, value);
     if put.is_err() {
         names.pop();
     }
@@ -41,7 +41,7 @@ fn put_next<V: Named + Drop, L: Lends<Kept<V>>, R: Wait>(
 }
 
 /// Takes back the values of these names, the last one first.
-fn take_back<V: Named + Drop, L: Lends<Kept<V>>, R: Wait>(
+fn take_back_values<V: Named + Drop, L: Lends<Kept<V>>, R: Wait>(
     rt: &R,
     lender: &mut L,
     mut names: Vec<Key>,
@@ -50,7 +50,7 @@ fn take_back<V: Named + Drop, L: Lends<Kept<V>>, R: Wait>(
         ≡ option_map (λ kept. without_all kept names.items) (L.shown lender.old) }
 {
     while let Some(name) = names.pop() {
-        take_in(rt, lender, name);
+        take_from_lent_map(rt, lender, name);
     }
 }
 
@@ -61,7 +61,7 @@ fn take_back<V: Named + Drop, L: Lends<Kept<V>>, R: Wait>(
 /// one of them in the meantime, or put one of that name in its place.
 ///
 /// It needs memory for the names, so `OutOfMemory` may come where a value of that name is kept.
-pub fn put_all<V: Named + Drop, L: Lends<Kept<V>>, R: Wait>(
+pub fn put_all_or_none<V: Named + Drop, L: Lends<Kept<V>>, R: Wait>(
     rt: &R,
     lender: &mut L,
     alloc: Global,
@@ -82,8 +82,8 @@ pub fn put_all<V: Named + Drop, L: Lends<Kept<V>>, R: Wait>(
 {
     let mut names = Vec::new(alloc);
     for value in values {
-        if let Err(refused) = put_next(rt, lender, &mut names, value) {
-            take_back(rt, lender, names);
+        if let Err(refused) = put_and_push_key(rt, lender, &mut names, value) {
+            take_back_values(rt, lender, names);
             return Err(refused);
         }
     }

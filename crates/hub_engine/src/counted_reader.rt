@@ -62,11 +62,11 @@ impl<R: Read> CountedReader<R> {
         // The count goes with the call that asks the reader, in one place.
         self.reads += 1;
         let answer = self.reader.read(piece);
-        self.result_of_read(answer)
+        self.interpret_read_answer(answer)
     }
 
     /// What the reader's answer means: an interruption is counted, and is no failure.
-    fn result_of_read(&mut self, answer: io::Result<usize>) -> Result<Option<usize>, Device>
+    fn interpret_read_answer(&mut self, answer: io::Result<usize>) -> Result<Option<usize>, Device>
         ensures ok { IfOk answer (λ count. result ≡ Ok (Some count)) }
         ensures interrupted { IfErr answer (λ error.
             error_kind error ≡ ErrorKind.Interrupted → result ≡ Ok None) }

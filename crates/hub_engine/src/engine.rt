@@ -5,7 +5,7 @@ ghost use Rattle.hub_engine.specs.Engine.{EndsAnswer};
 use crate::counted_reader::CountedReader;
 use crate::counted_writer::CountedWriter;
 use crate::input::{InputError, read_input};
-use crate::output::end_out_of_memory;
+use crate::output::write_out_of_memory;
 use crate::status::{Device, ExitStatus};
 use std::alloc::Global;
 use std::io::{Read, Write};
@@ -48,6 +48,6 @@ pub fn run_engine<E: Engine, R: Read, W: Write>(
     match read_input(alloc, reader) {
         Ok(input) => E::answer(alloc, input, writer),
         Err(InputError::Device) => Err(Device),
-        Err(InputError::OutOfMemory) => end_out_of_memory(writer),
+        Err(InputError::OutOfMemory) => write_out_of_memory(writer),
     }
 }

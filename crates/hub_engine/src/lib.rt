@@ -13,5 +13,7 @@ pub use counted_reader::CountedReader;
 pub use counted_writer::CountedWriter;
 pub use engine::{Engine, run_engine};
 pub use input::{InputError, read_input};
-pub use output::{PIECE, end_out_of_memory, end_unread, end_with, write_kept, write_whole};
+pub use output::{
+    PIECE, write_and_flush, write_input_error, write_kept, write_out_of_memory, write_whole,
+};
 pub use status::{Device, Ending, ExitStatus};

@@ -53,7 +53,7 @@ pub fn write_kept<W: Write>(writer: &mut CountedWriter<W>, kept: &mut Vec<u8>) -
 }
 
 /// Writes the last bytes, sees that all has gone out, and answers the status.
-pub fn end_with<W: Write>(
+pub fn write_and_flush<W: Write>(
     writer: &mut CountedWriter<W>,
     bytes: &[u8],
     status: ExitStatus,
@@ -66,16 +66,16 @@ pub fn end_with<W: Write>(
 }
 
 /// Ends for want of memory: `out of memory` is the last text line of the output.
-pub fn end_out_of_memory<W: Write>(writer: &mut CountedWriter<W>) -> Result<ExitStatus, Device>
+pub fn write_out_of_memory<W: Write>(writer: &mut CountedWriter<W>) -> Result<ExitStatus, Device>
     ensures { EndsOutput W.contents (Says exit.OutOfMemory out_of_memory)
         writer.old writer.new result }
 {
-    end_with(writer, OUT_OF_MEMORY, ExitStatus::OutOfMemory)
+    write_and_flush(writer, OUT_OF_MEMORY, ExitStatus::OutOfMemory)
 }
 
 /// Ends for an input that wasn't read: its first bad line is told alone, by its number from 1 and
 /// the name of its kind. `kind` is `None` where memory ran out.
-pub fn end_unread<W: Write>(
+pub fn write_input_error<W: Write>(
     alloc: Global,
     writer: &mut CountedWriter<W>,
     line: usize,
@@ -85,16 +85,16 @@ pub fn end_unread<W: Write>(
         writer.old writer.new result }
 {
     let Some(kind) = kind else {
-        return end_out_of_memory(writer);
+        return write_out_of_memory(writer);
     };
-    match bad_line(alloc, line, kind) {
-        Ok(text) => end_with(writer, text.as_bytes(), ExitStatus::BadInput),
-        Err(_) => end_out_of_memory(writer),
+    match bad_line_text(alloc, line, kind) {
+        Ok(text) => write_and_flush(writer, text.as_bytes(), ExitStatus::BadInput),
+        Err(_) => write_out_of_memory(writer),
     }
 }
 
 #[tactic(auto, unfolding(crate::specs::Engine::bad_line_text))]
-fn bad_line(alloc: Global, line: usize, kind: &str) -> Result<String, OutOfMemory>
+fn bad_line_text(alloc: Global, line: usize, kind: &str) -> Result<String, OutOfMemory>
     ensures { IfOk result (λ text. string_bytes text ≡ bad_line_text line kind.now) }
 {
     let text = format!(in alloc; "line {line}: {kind}\n")?;

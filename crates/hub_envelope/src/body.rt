@@ -9,7 +9,7 @@ ghost use Rattle.hub_envelope.specs.Compact.{IsCompact};
 use crate::OutOfMemory;
 use crate::compact::is_compact;
 use crate::limits::{MAX_BODY_BYTES, MAX_NESTING};
-use crate::profile::{is_whole, nests_within};
+use crate::profile::{has_whole_numbers, nests_within};
 use crate::stored_text::StoredText;
 use serde_json::Value;
 use std::alloc::Global;
@@ -125,7 +125,7 @@ impl Body {
                 });
             }
         };
-        if !is_whole(&value) {
+        if !has_whole_numbers(&value) {
             return Err(BodyError::NotWhole);
         }
         if !nests_within(&value, MAX_NESTING) {

@@ -75,8 +75,8 @@ fn after_members(text: &[u8], levels: usize) -> Option<&[u8]>
     let mut rest = text;
     let mut before: Option<&[u8]> = None;
     loop {
-        let (key, value) = member_key(rest)?;
-        if !may_follow(before, key) {
+        let (key, value) = split_member_key(rest)?;
+        if !may_key_follow(before, key) {
             return None;
         }
         before = Some(key);
@@ -90,7 +90,7 @@ fn after_members(text: &[u8], levels: usize) -> Option<&[u8]>
 }
 
 /// Whether a member may have the key, which stands behind the one before it in byte order.
-fn may_follow(before: Option<&[u8]>, key: &[u8]) -> bool
+fn may_key_follow(before: Option<&[u8]>, key: &[u8]) -> bool
     ensures { IsTrue result → IsAbove (option_map (λ k. k.now) before.entry) key.now }
 {
     match before {
@@ -100,10 +100,10 @@ fn may_follow(before: Option<&[u8]>, key: &[u8]) -> bool
 }
 
 /// The bytes of the key at the front, and what stands behind its colon.
-fn member_key(text: &[u8]) -> Option<(&[u8], &[u8])>
+fn split_member_key(text: &[u8]) -> Option<(&[u8], &[u8])>
     ensures { IfSome result (λ key. text.now ≡ quoted key.0.now ++ 58 ∷ key.1.now) }
 {
-    let (key, rest) = plain_string(text)?;
+    let (key, rest) = split_plain_string(text)?;
     let (colon, value) = rest.split_first()?;
     if *colon != b':' {
         return None;
@@ -118,18 +118,20 @@ fn after_string(text: &[u8]) -> Option<&[u8]>
 {
     let mut rest = text;
     loop {
-        let end = rest.iter().position(|byte| is_stop(*byte))?;
+        let end = rest
+            .iter()
+            .position(|byte| is_quote_or_needs_escape(*byte))?;
         let after = &rest[end + 1..];
         match rest[end] {
             b'"' => return Some(after),
-            b'\\' => rest = after_letter(after)?,
+            b'\\' => rest = after_escape_letter(after)?,
             _ => return None,
         }
     }
 }
 
 /// What stands behind the letter of a short escape, before which the backslash stands.
-fn after_letter(text: &[u8]) -> Option<&[u8]>
+fn after_escape_letter(text: &[u8]) -> Option<&[u8]>
     ensures escape { IfSome result (λ rest. IsEscapeBefore (92 ∷ text.now) rest.now) }
     ensures shorter { IfSome result (λ rest. length rest.now < length text.now) }
 {
@@ -149,14 +151,16 @@ fn is_escape_letter(letter: u8) -> bool
 }
 
 /// The bytes of the string at the front, which need no escape, and what stands behind it.
-fn plain_string(text: &[u8]) -> Option<(&[u8], &[u8])>
+fn split_plain_string(text: &[u8]) -> Option<(&[u8], &[u8])>
     ensures { IfSome result (λ string. text.now ≡ quoted string.0.now ++ string.1.now) }
 {
     let (quote, inside) = text.split_first()?;
     if *quote != b'"' {
         return None;
     }
-    let end = inside.iter().position(|byte| is_stop(*byte))?;
+    let end = inside
+        .iter()
+        .position(|byte| is_quote_or_needs_escape(*byte))?;
     if inside[end] != b'"' {
         return None;
     }
@@ -164,7 +168,7 @@ fn plain_string(text: &[u8]) -> Option<(&[u8], &[u8])>
 }
 
 /// Whether a string has no such byte without an escape, but for the quote that ends it.
-fn is_stop(byte: u8) -> bool
+fn is_quote_or_needs_escape(byte: u8) -> bool
     ensures { result ≡ is_stop byte }
 {
     byte == b'"' || byte == b'\\' || byte < b' '

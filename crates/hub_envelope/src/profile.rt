@@ -9,36 +9,36 @@ use serde_json::Value;
 use serde_json::value::Map;
 
 /// Whether each number in the value is whole and fits 64 bits.
-#[cycle(is_whole)]
-pub(crate) fn is_whole(value: &Value) -> bool
+#[cycle(has_whole_numbers)]
+pub(crate) fn has_whole_numbers(value: &Value) -> bool
     ensures { result ≡ not (has_float (view value.now)) }
 {
     match value {
         Value::Null | Value::Bool(_) | Value::String(_) => true,
         Value::Number(number) => !number.is_f64(),
-        Value::Array(items) => items_are_whole(items),
-        Value::Object(members) => members_are_whole(members),
+        Value::Array(items) => items_have_whole_numbers(items),
+        Value::Object(members) => members_have_whole_numbers(members),
     }
 }
 
-#[cycle(is_whole)]
-fn items_are_whole(items: &[Value]) -> bool
+#[cycle(has_whole_numbers)]
+fn items_have_whole_numbers(items: &[Value]) -> bool
     ensures { result ≡ not (items_have_float (items_view items.now)) }
 {
     for item in items {
-        if !is_whole(item) {
+        if !has_whole_numbers(item) {
             return false;
         }
     }
     true
 }
 
-#[cycle(is_whole)]
-fn members_are_whole(members: &Map<String, Value>) -> bool
+#[cycle(has_whole_numbers)]
+fn members_have_whole_numbers(members: &Map<String, Value>) -> bool
     ensures { result ≡ not (members_have_float (members_view members.now.entries)) }
 {
     for (_, member) in members.iter() {
-        if !is_whole(member) {
+        if !has_whole_numbers(member) {
             return false;
         }
     }

@@ -14,7 +14,7 @@ const STAGES: usize = 4;
 
 /// The stage at which a line is asked: those that are ready come first.
 #[inline]
-fn stage_at(next: usize, ready: u64, line: usize) -> usize
+fn stage_of_line(next: usize, ready: u64, line: usize) -> usize
     requires { line < 64 }
     ensures { result ≡ turn_stage next ready line }
 {
@@ -28,7 +28,7 @@ fn stage_at(next: usize, ready: u64, line: usize) -> usize
 
 /// The lines among which those of a stage are.
 #[inline]
-fn bounds_of(next: usize, count: usize, stage: usize) -> (usize, usize)
+fn line_range_of_stage(next: usize, count: usize, stage: usize) -> (usize, usize)
     ensures within { result.1 ≤ count }
     ensures all { (ready line : ℕ) → line < count → turn_stage next ready line ≡ stage →
         (result.0 ≤ line) × (line < result.1) }
@@ -42,7 +42,7 @@ fn bounds_of(next: usize, count: usize, stage: usize) -> (usize, usize)
 
 /// Asks the lines of one stage.
 #[inline(always)]
-fn take_in_stage<M: Drop>(
+fn take_from_lines_of_stage<M: Drop>(
     lines: &mut [Option<LineTaker<M>>],
     next: usize,
     ready: u64,
@@ -55,9 +55,9 @@ fn take_in_stage<M: Drop>(
     ensures from { IfFrom (λ i. (turn_stage next ready i ≡ stage) × (i < length lines.old)) result }
     ensures some { result ≢ Disabled }
 {
-    let (from, to) = bounds_of(next, lines.len(), stage);
+    let (from, to) = line_range_of_stage(next, lines.len(), stage);
     for line in from..to {
-        if stage_at(next, ready, line) == stage {
+        if stage_of_line(next, ready, line) == stage {
             match take_from(&mut lines[line]) {
                 LineTaken::Item(message) => return FanTaken::Message(line, message),
                 LineTaken::Ended => return FanTaken::Ended(line),
@@ -71,7 +71,7 @@ fn take_in_stage<M: Drop>(
 /// Asks the lines in turn, from this one on, those that are ready first. It stops at the first that
 /// gives something.
 #[inline(always)]
-fn take_by_stages<M: Drop>(
+fn take_ready_lines_first<M: Drop>(
     lines: &mut [Option<LineTaker<M>>],
     next: usize,
     ready: u64,
@@ -83,7 +83,7 @@ fn take_by_stages<M: Drop>(
     ensures some { result ≢ Disabled }
 {
     for stage in 0..STAGES {
-        match take_in_stage(lines, next, ready, stage, hints) {
+        match take_from_lines_of_stage(lines, next, ready, stage, hints) {
             FanTaken::Empty => {}
             given => return given,
         }
@@ -107,7 +107,7 @@ pub(crate) fn take_in_turn<M: Drop>(
     ensures from { IfFrom (λ i. i < length lines.old) result.0 }
     ensures some { result.0 ≢ Disabled }
 {
-    let taken = take_by_stages(lines, next, ready, hints);
+    let taken = take_ready_lines_first(lines, next, ready, hints);
     let ended = match &taken {
         FanTaken::Ended(line) => lines[*line].take(),
         _ => None,

@@ -2,7 +2,7 @@
 ghost use Rattle.std.specs.Prelude.{◌<◌, ◌≤◌, length};
 ghost use Rattle.hub_fan.specs.Fans.{Drained, IfHanded};
 
-use crate::places::take_closed;
+use crate::places::take_from_closed_place;
 use hub_line::{LineTaken, LineTaker};
 
 /// A fan that was closed: it hands back what was posted and not taken, up to the end of each line.
@@ -37,21 +37,21 @@ impl<M: Drop> FanGrave<M> {
     ghost use Rattle.hub_fan.specs.Fans.{Drained, IfHanded};
 
     /// Hands back the next message.
-    pub fn drain(&mut self) -> FanDrained<M>
+    pub fn take_leftover(&mut self) -> FanDrained<M>
         ensures drained { Drained result self.old.lines.items self.new.lines.items }
         ensures from { IfHanded (λ i. i < 32) result }
     {
-        drain_next(self.lines.as_mut_slice())
+        take_next_leftover(self.lines.as_mut_slice())
     }
 }
 
-fn drain_next<M: Drop>(lines: &mut [Option<LineTaker<M>>]) -> FanDrained<M>
+fn take_next_leftover<M: Drop>(lines: &mut [Option<LineTaker<M>>]) -> FanDrained<M>
     ensures drained { Drained result lines.old lines.new }
     ensures from { IfHanded (λ i. i < length lines.old) result }
 {
     let mut waiting = None;
     for line in 0..lines.len() {
-        match take_closed(&mut lines[line]) {
+        match take_from_closed_place(&mut lines[line]) {
             LineTaken::Item(message) => return FanDrained::Message(line, message),
             LineTaken::Empty => waiting = Some(line),
             LineTaken::Ended => {}

@@ -7,7 +7,7 @@ use crate::OutOfMemory;
 use crate::asking::take_in_turn;
 use crate::closing::{ClosedFan, FanGrave};
 use crate::hints::{FanWords, Hints, bit_of};
-use crate::places::{shut_all, some_has};
+use crate::places::{any_place_has_some, shut_all};
 use hub_channel::Armed;
 use hub_line::{LinePoster, LineTaker, NotPosted, open_line};
 use std::alloc::Global;
@@ -61,7 +61,7 @@ pub struct FanPoster<M> {
 }
 
 /// The first place that is free; where none is, the one behind the last.
-fn free_place<M: Drop>(lines: &[Option<LineTaker<M>>]) -> usize
+fn first_free_place<M: Drop>(lines: &[Option<LineTaker<M>>]) -> usize
     ensures most { result ≤ length lines.now }
     ensures free { IsFree (slice_get lines.now result) }
     ensures least { (j : ℕ) → j < result → IsInUse (slice_get lines.now j) }
@@ -75,7 +75,7 @@ fn free_place<M: Drop>(lines: &[Option<LineTaker<M>>]) -> usize
 }
 
 /// Puts a line into a place, or into a new one behind the last.
-fn put<M: Drop>(
+fn put_line_in_place<M: Drop>(
     lines: &mut Vec<Option<LineTaker<M>>>,
     line: usize,
     taker: LineTaker<M>,
@@ -113,7 +113,7 @@ impl<M: Drop> Fan<M> {
             next: 0,
             ended: None,
             is_started: false,
-            hints: Hints::new(FanWords::open(alloc)?),
+            hints: Hints::new(FanWords::new_shared(alloc)?),
             alloc,
         })
     }
@@ -131,7 +131,7 @@ impl<M: Drop> Fan<M> {
         ensures others { (self.new.next ≡ self.old.next)
             × (self.new.is_started ≡ self.old.is_started) }
     {
-        let line = free_place(self.lines.as_slice());
+        let line = first_free_place(self.lines.as_slice());
         if line >= FAN_LINES {
             return Err(NotOpened::Full);
         }
@@ -141,7 +141,7 @@ impl<M: Drop> Fan<M> {
         let Ok(words) = Arc::try_clone(&self.hints.words) else {
             return Err(NotOpened::OutOfMemory);
         };
-        if put(&mut self.lines, line, taker).is_err() {
+        if put_line_in_place(&mut self.lines, line, taker).is_err() {
             return Err(NotOpened::OutOfMemory);
         }
         let bit = bit_of(line);
@@ -191,9 +191,9 @@ impl<M: Drop> Fan<M> {
         ensures others { (self.new.next ≡ self.old.next)
             × (self.new.is_started ≡ self.old.is_started) }
     {
-        let old = self.hints.words.arm(token);
+        let old = self.hints.words.replace_token(token);
         self.hints.gather();
-        let waits = some_has(self.lines.as_mut_slice());
+        let waits = any_place_has_some(self.lines.as_mut_slice());
         Armed { token: old, waits }
     }
 
@@ -213,7 +213,7 @@ impl<M: Drop> Fan<M> {
         shut_all(lines.as_mut_slice());
         ClosedFan {
             grave: FanGrave { lines },
-            token: hints.words.disarm(),
+            token: hints.words.remove_token(),
         }
     }
 }
@@ -234,7 +234,7 @@ impl<M: Drop> FanPoster<M> {
         ensures closed { IfErr result (λ e. (e.0 ≡ Closed) ↔ IsOver self.new.to) }
     {
         self.to.post(message)?;
-        Ok(self.words.ring(self.bit))
+        Ok(self.words.set_bit_and_take_token(self.bit))
     }
 
     /// Gives the line back: the taker is told its end behind all that was posted. It answers whom
@@ -242,6 +242,6 @@ impl<M: Drop> FanPoster<M> {
     pub fn close(self) -> u64 {
         let FanPoster { to, bit, words } = self;
         drop(to);
-        words.ring(bit)
+        words.set_bit_and_take_token(bit)
     }
 }

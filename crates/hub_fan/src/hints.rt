@@ -18,7 +18,7 @@ pub struct FanWords {
 }
 
 impl FanWords {
-    pub(crate) fn open(alloc: Global) -> Result<Arc<FanWords>, OutOfMemory> {
+    pub(crate) fn new_shared(alloc: Global) -> Result<Arc<FanWords>, OutOfMemory> {
         let words = FanWords {
             bits: AtomicU64::new(0),
             token: AtomicU64::new(NO_TOKEN),
@@ -29,7 +29,7 @@ impl FanWords {
     /// Tells the taker that something was posted over the line of this bit, and answers whom to
     /// wake. A bit that is set already is one that the taker clears before it looks there again.
     #[inline]
-    pub(crate) fn ring(&self, bit: u64) -> u64 {
+    pub(crate) fn set_bit_and_take_token(&self, bit: u64) -> u64 {
         if self.bits.load(Ordering::SeqCst) & bit != 0 {
             return NO_TOKEN;
         }
@@ -38,12 +38,12 @@ impl FanWords {
     }
 
     /// Sets the token, and answers the one that was there.
-    pub(crate) fn arm(&self, token: u64) -> u64 {
+    pub(crate) fn replace_token(&self, token: u64) -> u64 {
         self.token.swap(token, Ordering::SeqCst)
     }
 
     /// Takes the token out.
-    pub(crate) fn disarm(&self) -> u64 {
+    pub(crate) fn remove_token(&self) -> u64 {
         take_token(&self.token)
     }
 }

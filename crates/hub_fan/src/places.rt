@@ -17,7 +17,7 @@ pub(crate) fn take_from<M: Drop>(place: &mut Option<LineTaker<M>>) -> LineTaken<
 }
 
 /// Asks a place of a closed fan for its next message.
-pub(crate) fn take_closed<M: Drop>(place: &mut Option<LineTaker<M>>) -> LineTaken<M>
+pub(crate) fn take_from_closed_place<M: Drop>(place: &mut Option<LineTaker<M>>) -> LineTaken<M>
     ensures { HandsBack result place.old place.new }
 {
     match place {
@@ -27,7 +27,7 @@ pub(crate) fn take_closed<M: Drop>(place: &mut Option<LineTaker<M>>) -> LineTake
 }
 
 /// Whether a place has something to take: a message, or the end of its line.
-pub(crate) fn has_some<M: Drop>(place: &mut Option<LineTaker<M>>) -> bool
+pub(crate) fn place_has_some<M: Drop>(place: &mut Option<LineTaker<M>>) -> bool
     ensures same { Keeps place.old place.new }
     ensures some { IsTrue result → Shows place.old place.new }
     ensures none { IsFalse result → GivesNone place.old place.new }
@@ -39,7 +39,7 @@ pub(crate) fn has_some<M: Drop>(place: &mut Option<LineTaker<M>>) -> bool
 }
 
 /// Closes the line of a place.
-pub(crate) fn shut<M: Drop>(place: &mut Option<LineTaker<M>>)
+pub(crate) fn shut_place<M: Drop>(place: &mut Option<LineTaker<M>>)
     ensures { Shuts place.old place.new }
 {
     if let Some(line) = place {
@@ -48,13 +48,13 @@ pub(crate) fn shut<M: Drop>(place: &mut Option<LineTaker<M>>)
 }
 
 /// Whether some line has something to take.
-pub(crate) fn some_has<M: Drop>(lines: &mut [Option<LineTaker<M>>]) -> bool
+pub(crate) fn any_place_has_some<M: Drop>(lines: &mut [Option<LineTaker<M>>]) -> bool
     ensures same { EachPlace Keeps lines.old lines.new }
     ensures some { IsTrue result → SomeShows lines.old lines.new }
     ensures none { IsFalse result → EachPlace GivesNone lines.old lines.new }
 {
     for line in lines.iter_mut() {
-        if has_some(line) {
+        if place_has_some(line) {
             return true;
         }
     }
@@ -66,6 +66,6 @@ pub(crate) fn shut_all<M: Drop>(lines: &mut [Option<LineTaker<M>>])
     ensures { EachPlace Shuts lines.old lines.new }
 {
     for line in lines.iter_mut() {
-        shut(line);
+        shut_place(line);
     }
 }

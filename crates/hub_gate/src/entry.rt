@@ -7,7 +7,7 @@ ghost use Rattle.hub_gate.specs.GateSeats.{IsSeatOf, line_in};
 use crate::gate::{GateSeat, GateSteps, GateTable, Right};
 use crate::plays::{Enter, Leave, TurnBack};
 use crate::view::EntryWitness;
-use crate::word::{ONE_LINE, closed_in, enabled_in, moved_in};
+use crate::word::{ONE_LINE, has_closed_flag, has_enabled_flag, has_moved_flag};
 use std::marker::Model;
 use std::sync::Arc;
 
@@ -89,11 +89,11 @@ impl<T: Right> Entry<T> {
             line,
         } = self;
         let word = table.shared.fetch_add::<Enter<T>>(&mut seat, 0, ONE_LINE);
-        if moved_in(word) {
+        if has_moved_flag(word) {
             turn_back(&table.shared, &mut seat);
             return Entered::Turned(Entry { table, seat, line }, Refusal::Moved);
         }
-        if closed_in(word) {
+        if has_closed_flag(word) {
             turn_back(&table.shared, &mut seat);
             return Entered::Turned(Entry { table, seat, line }, Refusal::Closed);
         }
@@ -162,6 +162,6 @@ impl<T: Right> Inside<T> {
         } = self;
         table.shared.exchange(&mut seat, line, Some(right));
         let word = table.shared.fetch_sub::<Leave<T>>(&mut seat, 0, ONE_LINE);
-        (Entry { table, seat, line }, enabled_in(word))
+        (Entry { table, seat, line }, has_enabled_flag(word))
     }
 }

@@ -102,7 +102,10 @@ struct Reserved<T: Right> {
 }
 
 /// Asks for all the memory that a gate with these rights needs.
-fn reserve_for<T: Right>(alloc: Global, rights: &Vec<T>) -> Result<Reserved<T>, OutOfMemory>
+fn allocate_gate_memory<T: Right>(
+    alloc: Global,
+    rights: &Vec<T>,
+) -> Result<Reserved<T>, OutOfMemory>
     ensures table { IfOk result (HasTable T.tag rights.now.items) }
     ensures seat { IfOk result (HasFreshSeat T.tag rights.now.items) }
     ensures shares { IfOk result (HasShares T.tag rights.now.items) }
@@ -128,7 +131,7 @@ fn reserve_for<T: Right>(alloc: Global, rights: &Vec<T>) -> Result<Reserved<T>, 
 }
 
 /// Puts each right in the slot of its line, where the seat has all slots in hand, in order.
-fn fill<T: Right>(slots: &GateSteps<T>, seat: &mut GateSeat<T>, mut rights: Vec<T>)
+fn fill_slots<T: Right>(slots: &GateSteps<T>, seat: &mut GateSeat<T>, mut rights: Vec<T>)
     requires here { seat.old.table_id ≡ slots.now.table_id }
     requires held { seat.old.me.1 ≡ numbered 0 (replicate (length rights.items) None) }
     ensures stays { (seat.new.table_id ≡ seat.old.table_id) × (seat.new.id ≡ seat.old.id) }
@@ -143,7 +146,7 @@ fn fill<T: Right>(slots: &GateSteps<T>, seat: &mut GateSeat<T>, mut rights: Vec<
 }
 
 /// Puts each right in its slot, and makes the first seat the keeper's.
-fn put_home<T: Right>(slots: &GateSteps<T>, seat: &mut GateSeat<T>, rights: Vec<T>)
+fn fill_slots_and_open<T: Right>(slots: &GateSteps<T>, seat: &mut GateSeat<T>, rights: Vec<T>)
     requires table { IsSeatOf slots.now.table_id seat.old.table_id }
     requires slots { slots.now.table_id.slots ≡ length rights.items }
     requires fresh { seat.old.me ≡ (Fresh (map T.tag rights.items), []) }
@@ -152,12 +155,12 @@ fn put_home<T: Right>(slots: &GateSteps<T>, seat: &mut GateSeat<T>, rights: Vec<
     ensures stays { seat.new.table_id ≡ seat.old.table_id }
 {
     slots.load::<Gather>(seat, 0);
-    fill(slots, seat, rights);
+    fill_slots(slots, seat, rights);
     slots.load::<Open>(seat, 0);
 }
 
 /// Cuts a seat for each line off the keeper's, in order.
-fn seat_lines<T: Right>(
+fn make_line_entries<T: Right>(
     table: &Arc<GateTable<T>>,
     seat: &mut GateSeat<T>,
     mut shares: Vec<Arc<GateTable<T>>>,
@@ -200,7 +203,7 @@ impl<T: Right> Gate<T> {
         if count == 0 || count > MAX_LINES {
             return Err((GateError::BadCount, rights));
         }
-        let Ok(reserved) = reserve_for(alloc, &rights) else {
+        let Ok(reserved) = allocate_gate_memory(alloc, &rights) else {
             return Err((GateError::OutOfMemory, rights));
         };
         let Reserved {
@@ -210,8 +213,8 @@ impl<T: Right> Gate<T> {
             mut entries,
             rights: room,
         } = reserved;
-        put_home(&table.shared, &mut seat, rights);
-        seat_lines(&table, &mut seat, shares, &mut entries);
+        fill_slots_and_open(&table.shared, &mut seat, rights);
+        make_line_entries(&table, &mut seat, shares, &mut entries);
         let keeper = Keeper {
             table,
             seat,

@@ -8,7 +8,7 @@ ghost use Rattle.std.specs.Slots.{IsFull};
 use crate::gate::{GateSeat, GateSteps, GateTable, Right};
 use crate::plays::{Look, SetFlag};
 use crate::view::KeeperWitness;
-use crate::word::{Flag, count_in, shut_in};
+use crate::word::{Flag, has_moved_or_closed_flag, line_count_in};
 use atomic_table::Closed;
 use std::alloc::Global;
 use std::fmt;
@@ -61,7 +61,7 @@ impl<T: Right> Model for Keeper<T> {
 }
 
 /// Takes the right out of each slot, where the seat has all slots in hand, in order.
-fn take_out<T: Right>(
+fn take_all_rights<T: Right>(
     slots: &GateSteps<T>,
     seat: &mut GateSeat<T>,
     rights: &mut Vec<T>,
@@ -82,7 +82,7 @@ fn take_out<T: Right>(
 }
 
 /// Frees a table that nobody has any more, with what is left in its slots.
-fn free<T: Right>(mut closed: Closed<Option<T>, Global>)
+fn free_closed_table<T: Right>(mut closed: Closed<Option<T>, Global>)
     requires { IsFull closed.slots }
 {
     for slot in 0..closed.slot_count() {
@@ -149,16 +149,16 @@ impl<T: Right> Keeper<T> {
         if self.rights.is_none() {
             return Looked::Given;
         }
-        if !shut_in(word) {
+        if !has_moved_or_closed_flag(word) {
             return Looked::Open;
         }
-        let count = count_in(word);
+        let count = line_count_in(word);
         if count > 0 {
             return Looked::StillInside(count as u8);
         }
         let mut rights = self.rights.take().unwrap();
         let lines = table.slot_count();
-        take_out(&table.shared, &mut self.seat, &mut rights, lines);
+        take_all_rights(&table.shared, &mut self.seat, &mut rights, lines);
         Looked::Rights(rights)
     }
 }
@@ -183,7 +183,7 @@ impl<T: Right> Keeper<T> {
             Ok(table) => {
                 let closed = table.close_with(seat);
                 let word = closed.word(0);
-                free(closed);
+                free_closed_table(closed);
                 Ok(word)
             }
             Err(table) => Err(Keeper {

@@ -19,4 +19,4 @@ pub use gate::{Gate, GateError, Right};
 pub use keeper::{Keeper, Looked};
 pub use laws::gate_laws;
 pub use view::{EntryWitness, KeeperWitness};
-pub use word::{closed_in, count_in, enabled_in, moved_in, word_of};
+pub use word::{has_closed_flag, has_enabled_flag, has_moved_flag, line_count_in, word_of};

@@ -29,7 +29,7 @@ impl Flag {
 pub(crate) const ONE_LINE: u64 = 256;
 
 /// What the flag adds to a word in which it is set, or not.
-fn value_of(flag: Flag, is_set: bool) -> u64
+fn flag_value(flag: Flag, is_set: bool) -> u64
     ensures { result ≡ flag_bit flag * machine.bit_of is_set }
 {
     if is_set { flag.bit() } else { 0 }
@@ -40,9 +40,9 @@ pub fn word_of(enabled: bool, moved: bool, closed: bool, count: u8) -> u64
     ensures exactly { result ≡ machine.word_of enabled moved closed count }
     ensures greatest { count ≤ MAX_LINES → result ≤ 8199 }
 {
-    let flags = value_of(Flag::Enabled, enabled)
-        + value_of(Flag::Moved, moved)
-        + value_of(Flag::Closed, closed);
+    let flags = flag_value(Flag::Enabled, enabled)
+        + flag_value(Flag::Moved, moved)
+        + flag_value(Flag::Closed, closed);
     flags + count as u64 * ONE_LINE
 }
 
@@ -54,7 +54,7 @@ fn has_flag(word: u64, flag: Flag) -> bool
 }
 
 /// Whether the word has the flag ENABLED.
-pub fn enabled_in(word: u64) -> bool
+pub fn has_enabled_flag(word: u64) -> bool
     ensures exactly { result ≡ machine.enabled_in word }
     ensures part { (e m c : Bool) (k : ℕ) → word ≡ machine.word_of e m c k → result ≡ e }
 {
@@ -62,7 +62,7 @@ pub fn enabled_in(word: u64) -> bool
 }
 
 /// Whether the word has the flag MOVED.
-pub fn moved_in(word: u64) -> bool
+pub fn has_moved_flag(word: u64) -> bool
     ensures exactly { result ≡ machine.moved_in word }
     ensures part { (e m c : Bool) (k : ℕ) → word ≡ machine.word_of e m c k → result ≡ m }
 {
@@ -70,7 +70,7 @@ pub fn moved_in(word: u64) -> bool
 }
 
 /// Whether the word has the flag CLOSED.
-pub fn closed_in(word: u64) -> bool
+pub fn has_closed_flag(word: u64) -> bool
     ensures exactly { result ≡ machine.closed_in word }
     ensures part { (e m c : Bool) (k : ℕ) → word ≡ machine.word_of e m c k → result ≡ c }
 {
@@ -78,14 +78,14 @@ pub fn closed_in(word: u64) -> bool
 }
 
 /// Whether the word has one of the flags MOVED and CLOSED.
-pub(crate) fn shut_in(word: u64) -> bool
+pub(crate) fn has_moved_or_closed_flag(word: u64) -> bool
     ensures { result ≡ (machine.moved_in word || machine.closed_in word) }
 {
-    moved_in(word) || closed_in(word)
+    has_moved_flag(word) || has_closed_flag(word)
 }
 
 /// How many lines the word counts.
-pub fn count_in(word: u64) -> u64
+pub fn line_count_in(word: u64) -> u64
     ensures exactly { result ≡ machine.count_in word }
     ensures part { (e m c : Bool) (k : ℕ) → word ≡ machine.word_of e m c k → result ≡ k }
 {

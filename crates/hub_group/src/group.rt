@@ -29,7 +29,7 @@ fn cast_all<M: Copy + Drop>(
         slice_get answers.new j ≡ slice_get answers.old j }
 {
     for place in 0..members.len() {
-        answers[place] = members[place].cast(source, message);
+        answers[place] = members[place].post_unless_source(source, message);
     }
 }
 
@@ -100,7 +100,7 @@ impl<M: Copy + Drop> CastGroup<M> {
 
     /// Takes a member out, and gives its line back: whom to wake for it, or 0. Where no member has
     /// the number, nothing is changed.
-    pub fn leave(&mut self, member: u64) -> Option<u64>
+    pub fn remove_member(&mut self, member: u64) -> Option<u64>
         ensures left { IfSome result (λ wake.
             Leaves member self.old.members.items self.new.members.items) }
         ensures none { IfNone result ((self.new.members.items ≡ self.old.members.items)

@@ -33,7 +33,7 @@ impl<M: Copy + Drop> GroupMember<M> {
     ghost use Rattle.hub_group.specs.Casts.{Casts};
 
     /// Posts what is cast at a member that isn't its source.
-    pub(crate) fn cast(&mut self, source: u64, message: &M) -> CastAnswer
+    pub(crate) fn post_unless_source(&mut self, source: u64, message: &M) -> CastAnswer
         ensures { Casts message.now source self.old self.new result }
     {
         let mut answer = CastAnswer {

@@ -155,22 +155,24 @@ impl Life {
         ensures err { IfErr result (λ e. (answer self.old event ≡ Err e) × (self.new ≡ self.old)) }
     {
         match (self.state, event) {
-            (State::Parsed, Event::Install) => self.enter(State::Installing),
-            (State::Installed, Event::Activate) => self.enter(State::Activating),
+            (State::Parsed, Event::Install) => self.enter_state(State::Installing),
+            (State::Installed, Event::Activate) => self.enter_state(State::Activating),
             (State::Installing | State::Activating, Event::Extend) => self.open_extension()?,
             (State::Installing | State::Activating, Event::Settle) => self.close_extension(false)?,
             (State::Installing | State::Activating, Event::Fail) => self.close_extension(true)?,
             (State::Installing | State::Activating, Event::Returned) => self.finish_handler()?,
-            (State::Installed | State::Activated, Event::Discard) => self.enter(State::Redundant),
-            (State::Installing, Event::Terminate) => self.enter(State::Redundant),
-            (State::Activating, Event::Terminate) => self.enter(State::Activated),
-            (state, Event::Terminate) => self.enter(state),
+            (State::Installed | State::Activated, Event::Discard) => self.enter_state(
+                State::Redundant,
+            ),
+            (State::Installing, Event::Terminate) => self.enter_state(State::Redundant),
+            (State::Activating, Event::Terminate) => self.enter_state(State::Activated),
+            (state, Event::Terminate) => self.enter_state(state),
             _ => return Err(LifeError::WrongState),
         }
         Ok(self.state)
     }
 
-    fn enter(&mut self, state: State)
+    fn enter_state(&mut self, state: State)
         ensures { self.new ≡ entered state }
     {
         self.state = state;
@@ -200,7 +202,7 @@ impl Life {
         }
         self.open_extensions -= 1;
         self.failed |= fails;
-        self.settle();
+        self.enter_next_state_if_done();
         Ok(())
     }
 
@@ -213,22 +215,22 @@ impl Life {
             return Err(LifeError::WrongState);
         }
         self.handling = false;
-        self.settle();
+        self.enter_next_state_if_done();
         Ok(())
     }
 
     /// Enters the next state once nothing of the event is left to wait for.
-    fn settle(&mut self)
+    fn enter_next_state_if_done(&mut self)
         ensures { self.new ≡ settled self.old }
     {
         if self.handling || self.open_extensions > 0 {
             return;
         }
         match self.state {
-            State::Installing if self.failed => self.enter(State::Redundant),
-            State::Installing => self.enter(State::Installed),
-            State::Activating => self.enter(State::Activated),
-            state => self.enter(state),
+            State::Installing if self.failed => self.enter_state(State::Redundant),
+            State::Installing => self.enter_state(State::Installed),
+            State::Activating => self.enter_state(State::Activated),
+            state => self.enter_state(state),
         }
     }
 }

@@ -8,12 +8,12 @@ ghost use Rattle.hub_line.specs.declared.ring.Ahead.TheVariants.{Open};
 
 use crate::poster::LinePoster;
 use crate::ring::{Ahead, Chained, Feed, Source, Track};
-use crate::taker::{LineTaker, next_ahead};
+use crate::taker::{LineTaker, pop_next_track};
 use rtrb::{Consumer, Producer};
 use std::alloc::Global;
 
 /// What waits in the ring in use, which is the taker's.
-fn waiting_here<T: Drop>(
+fn count_in_ring<T: Drop>(
     source: &mut Source<T>,
     feed: &mut Option<Feed<T>>,
     tracks: &Consumer<Track<T>, Global, Chained>,
@@ -30,11 +30,11 @@ fn waiting_here<T: Drop>(
     let Some(used) = feed else {
         unreachable!();
     };
-    source.count_beside(used)
+    source.count_with_feed(used)
 }
 
 /// What waits in a line of which both ends are at hand.
-fn waiting_in<T: Drop>(
+fn count_in_line<T: Drop>(
     source: &mut Source<T>,
     tracks: &mut Consumer<Track<T>, Global, Chained>,
     ahead: &mut Ahead<T>,
@@ -57,11 +57,11 @@ fn waiting_in<T: Drop>(
 {
     tracks.slots_beside(rail);
     if let Ahead::Open = ahead {
-        *ahead = next_ahead(source, tracks);
+        *ahead = pop_next_track(source, tracks);
     }
     tracks.slots_beside(rail);
     match ahead {
-        Ahead::Open => Some(waiting_here(source, feed, tracks, rail)),
+        Ahead::Open => Some(count_in_ring(source, feed, tracks, rail)),
         Ahead::Next(_) => None,
         Ahead::Last => None,
     }
@@ -74,7 +74,7 @@ impl<T: Drop> LineTaker<T> {
 
     /// How many items wait, for a thread that has both ends: what was taken, followed by what
     /// waits, is what was posted. `None` where they may wait in more than one ring.
-    pub fn waiting_beside(&mut self, poster: &mut LinePoster<T>) -> Option<usize>
+    pub fn count_waiting_with_poster(&mut self, poster: &mut LinePoster<T>) -> Option<usize>
         requires { IsLine poster.old self.old }
         ensures taker { SameTaker self.old self.new × (taken self.new ≡ taken self.old) }
         ensures poster { SamePoster poster.old poster.new
@@ -84,7 +84,7 @@ impl<T: Drop> LineTaker<T> {
         ensures none { result ≡ None → KnowsItsRingOver self.new }
         ensures others { (self.new.told ≡ self.old.told) × (self.new.empties ≡ self.old.empties) }
     {
-        waiting_in(
+        count_in_line(
             &mut self.source,
             &mut self.rail,
             &mut self.ahead,

@@ -30,7 +30,7 @@ pub fn open_line<T: Drop>(alloc: Global) -> Result<(LinePoster<T>, LineTaker<T>)
     ensures line { IfOk result (λ ends. IsLine ends.0 ends.1) }
     ensures new { IfOk result (λ ends. (posted ends.0 ≡ []) × (taken ends.1 ≡ [])) }
 {
-    let (feed, first) = Feed::open(alloc, 1, FIRST)?;
+    let (feed, first) = Feed::open_ring(alloc, 1, FIRST)?;
     let (mut rail, mut tracks) = RingBuffer::with_protocol::<Global, Chained>(alloc, RAIL)?;
     let notices = Arc::new(alloc, AtomicU64::new(NOTHING))?;
     let heard = Arc::try_clone(&notices)?;
@@ -66,7 +66,7 @@ impl<T: Drop> LineGrave<T> {
 
     /// Hands back the next item. `Empty` says that the poster has made no call since the line was
     /// closed; after `Ended`, what was taken and what was handed back are all that was ever posted.
-    pub fn drain(&mut self) -> LineTaken<T>
+    pub fn take_leftover(&mut self) -> LineTaken<T>
         ensures line { SameTaker self.old.taker self.new.taker }
         ensures took { Took (taken self.old.taker) result (taken self.new.taker) }
         ensures empty { result ≡ Empty → HasNoneLeft self.new.taker }

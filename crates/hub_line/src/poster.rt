@@ -51,7 +51,7 @@ pub struct LinePoster<T> {
 
 /// Goes on in a ring of another capacity, if there is room and memory.
 #[cold]
-fn go_on<T: Drop>(
+fn continue_in_new_ring<T: Drop>(
     alloc: Global,
     capacity: usize,
     feed: &mut Feed<T>,
@@ -72,7 +72,7 @@ fn go_on<T: Drop>(
         return false;
     }
     let place = feed.place.wrapping_add(1);
-    let Ok((other, next)) = Feed::open(alloc, place, capacity) else {
+    let Ok((other, next)) = Feed::open_ring(alloc, place, capacity) else {
         return false;
     };
     let Ok(next) = Box::new(alloc, next) else {
@@ -108,11 +108,11 @@ fn make_room<T: Drop>(
     if capacity == 0 || capacity > MOST / GROWTH {
         return false;
     }
-    go_on(alloc, capacity * GROWTH, feed, rail)
+    continue_in_new_ring(alloc, capacity * GROWTH, feed, rail)
 }
 
 /// Ends the line, if it isn't over.
-fn end<T: Drop>(feed: &mut Option<Feed<T>>, rail: &mut Producer<Track<T>, Global, Chained>)
+fn end_line<T: Drop>(feed: &mut Option<Feed<T>>, rail: &mut Producer<Track<T>, Global, Chained>)
     requires { Stands feed.old rail.old }
     ensures stands { Stands feed.new rail.new }
     ensures over { goes_on (sent rail.new) ≡ false }
@@ -127,7 +127,7 @@ fn end<T: Drop>(feed: &mut Option<Feed<T>>, rail: &mut Producer<Track<T>, Global
 
 /// Does what a notice of the taker asks for, and answers whether it is done.
 #[cold]
-fn heed<T: Drop>(
+fn carry_out_notice<T: Drop>(
     alloc: Global,
     notice: u64,
     feed: &mut Option<Feed<T>>,
@@ -140,18 +140,18 @@ fn heed<T: Drop>(
     ensures same { posted_of feed.new rail.new ≡ posted_of feed.old rail.old }
 {
     if notice == CLOSED {
-        end(feed, rail);
+        end_line(feed, rail);
         return true;
     }
     match feed {
-        Some(used) if used.place == notice => go_on(alloc, FIRST, used, rail),
+        Some(used) if used.place == notice => continue_in_new_ring(alloc, FIRST, used, rail),
         _ => true,
     }
 }
 
 /// Posts an item, if the line isn't over.
 #[inline(always)]
-fn post_in<T: Drop>(
+fn post_unless_ended<T: Drop>(
     alloc: Global,
     feed: &mut Option<Feed<T>>,
     rail: &mut Producer<Track<T>, Global, Chained>,
@@ -184,13 +184,15 @@ impl<T: Drop> LinePoster<T> {
 
     /// Does what the taker has asked for since the last call.
     #[inline(always)]
-    fn listen(&mut self)
+    fn handle_pending_notice(&mut self)
         ensures line { SamePoster self.old self.new }
         ensures same { posted self.new ≡ posted self.old }
         ensures over { IsOver self.old → IsOver self.new }
     {
         let notice = self.notices.load(Ordering::SeqCst);
-        if notice != self.heeded && heed(self.alloc, notice, &mut self.feed, &mut self.rail) {
+        if notice != self.heeded
+            && carry_out_notice(self.alloc, notice, &mut self.feed, &mut self.rail)
+        {
             self.heeded = notice;
         }
     }
@@ -204,12 +206,12 @@ impl<T: Drop> LinePoster<T> {
         ensures closed { IfErr result (λ e. (e.0 ≡ Closed) ↔ IsOver self.new) }
         ensures over { IsOver self.old → IsOver self.new }
     {
-        self.listen();
-        post_in(self.alloc, &mut self.feed, &mut self.rail, item)
+        self.handle_pending_notice();
+        post_unless_ended(self.alloc, &mut self.feed, &mut self.rail, item)
     }
 
     /// Whether the line is over, since its taker has closed it. This is a call that ends it then.
-    pub fn is_over(&mut self) -> bool
+    pub fn is_closed_by_taker(&mut self) -> bool
         ensures line { SamePoster self.old self.new }
         ensures same { posted self.new ≡ posted self.old }
         ensures over { IsTrue result ↔ IsOver self.new }
@@ -217,7 +219,7 @@ impl<T: Drop> LinePoster<T> {
         ensures heeded { self.new.heeded ≡ self.old.heeded }
     {
         if self.notices.load(Ordering::SeqCst) == CLOSED {
-            end(&mut self.feed, &mut self.rail);
+            end_line(&mut self.feed, &mut self.rail);
         }
         self.feed.is_none()
     }
@@ -232,6 +234,6 @@ impl<T: Drop> Drop for LinePoster<T> {
             heeded: _,
             alloc: _,
         } = self;
-        end(&mut feed, &mut rail);
+        end_line(&mut feed, &mut rail);
     }
 }

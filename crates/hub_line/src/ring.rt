@@ -41,7 +41,7 @@ impl<T: Drop> Feed<T> {
     ghost use Rattle.hub_line.specs.Rings.{fed, given, known, free, IsRing, SameFeed};
 
     /// The two ends of a new ring, at a place of its line.
-    pub(crate) fn open(
+    pub(crate) fn open_ring(
         alloc: Global,
         place: u64,
         capacity: usize,
@@ -135,7 +135,7 @@ impl<T: Drop> Source<T> {
     }
 
     /// How many items are there, for a thread that has both ends.
-    pub(crate) fn count_beside(&mut self, feed: &mut Feed<T>) -> usize
+    pub(crate) fn count_with_feed(&mut self, feed: &mut Feed<T>) -> usize
         requires { IsRing feed.old self.old }
         ensures same { SameSource self.old self.new × (given self.new ≡ given self.old) }
         ensures feed { SameFeed feed.old feed.new × (fed feed.new ≡ fed feed.old) }

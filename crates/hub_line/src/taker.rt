@@ -42,7 +42,7 @@ pub struct LineTaker<T> {
 
 /// What is heard of how the line goes on.
 #[cold]
-pub(crate) fn next_ahead<T: Drop>(
+pub(crate) fn pop_next_track<T: Drop>(
     source: &mut Source<T>,
     rail: &mut Consumer<Track<T>, Global, Chained>,
 ) -> Ahead<T>
@@ -60,11 +60,11 @@ pub(crate) fn next_ahead<T: Drop>(
     match track {
         Track::First(_) => unreachable!(),
         Track::Onward(mut over, next) => {
-            source.count_beside(&mut over);
+            source.count_with_feed(&mut over);
             Ahead::Next(next)
         }
         Track::End(mut over) => {
-            source.count_beside(&mut over);
+            source.count_with_feed(&mut over);
             Ahead::Last
         }
     }
@@ -72,7 +72,7 @@ pub(crate) fn next_ahead<T: Drop>(
 
 /// Leaves a ring of which all was taken for the next one.
 #[cold]
-fn hop<T: Drop>(
+fn move_to_next_ring<T: Drop>(
     source: &mut Source<T>,
     next: Box<Source<T>>,
     rail: &Consumer<Track<T>, Global, Chained>,
@@ -88,7 +88,7 @@ fn hop<T: Drop>(
 
 /// Whether something can be taken: an item of the ring, or the end.
 #[inline]
-fn reach<T: Drop>(
+fn can_take<T: Drop>(
     source: &mut Source<T>,
     rail: &mut Consumer<Track<T>, Global, Chained>,
     ahead: &mut Ahead<T>,
@@ -106,7 +106,7 @@ fn reach<T: Drop>(
         if !source.is_empty() {
             return true;
         }
-        *ahead = next_ahead(source, rail);
+        *ahead = pop_next_track(source, rail);
     }
     if source.known_items() > 0 {
         return true;
@@ -114,7 +114,7 @@ fn reach<T: Drop>(
     match mem::replace(ahead, Ahead::Open) {
         Ahead::Open => false,
         Ahead::Next(next) => {
-            hop(source, next, rail);
+            move_to_next_ring(source, next, rail);
             !source.is_empty()
         }
         Ahead::Last => {
@@ -126,7 +126,7 @@ fn reach<T: Drop>(
 
 /// Takes the next item, wherever the line has it.
 #[inline(always)]
-fn take_in<T: Drop>(
+fn take_next_item<T: Drop>(
     source: &mut Source<T>,
     rail: &mut Consumer<Track<T>, Global, Chained>,
     ahead: &mut Ahead<T>,
@@ -139,7 +139,7 @@ fn take_in<T: Drop>(
     ensures empty { result ≡ Empty → KnowsOfNone source.new ahead.new }
     ensures ended { result ≡ Ended → HasTakenAll source.new ahead.new (received rail.new) }
 {
-    if !reach(source, rail, ahead) {
+    if !can_take(source, rail, ahead) {
         return LineTaken::Empty;
     }
     if source.known_items() == 0 {
@@ -168,7 +168,7 @@ impl<T: Drop> LineTaker<T> {
     {
         let taken = self.take_untold();
         if matches!(taken, LineTaken::Empty) {
-            self.tell();
+            self.report_empty_ring();
         }
         taken
     }
@@ -181,7 +181,7 @@ impl<T: Drop> LineTaker<T> {
         ensures empty { IsFalse result → HasNoneLeft self.new × HasLooked self.old self.new }
         ensures told { self.new.told ≡ self.old.told }
     {
-        let some = reach(&mut self.source, &mut self.rail, &mut self.ahead);
+        let some = can_take(&mut self.source, &mut self.rail, &mut self.ahead);
         if !some {
             self.empties = self.empties.wrapping_add(1);
         }
@@ -199,7 +199,7 @@ impl<T: Drop> LineTaker<T> {
         ensures order { IsInOrder self.new }
         ensures told { self.new.told ≡ self.old.told }
     {
-        let taken = take_in(&mut self.source, &mut self.rail, &mut self.ahead);
+        let taken = take_next_item(&mut self.source, &mut self.rail, &mut self.ahead);
         if matches!(taken, LineTaken::Empty) {
             self.empties = self.empties.wrapping_add(1);
         }
@@ -208,7 +208,7 @@ impl<T: Drop> LineTaker<T> {
 
     /// Tells the poster, once a ring, that a large ring was found empty.
     #[inline]
-    fn tell(&mut self)
+    fn report_empty_ring(&mut self)
         ensures same { (self.new.source ≡ self.old.source) × (self.new.rail ≡ self.old.rail)
             × (self.new.ahead ≡ self.old.ahead) × (self.new.empties ≡ self.old.empties) }
         ensures shut { IsShut self.old → IsShut self.new }

@@ -60,11 +60,11 @@ fn a_closed_port_tells_its_peer(rt: HostRuntime) -> Result<(), Fail> {
     let mut closed = left.close();
     for n in 0..100u64 {
         assert!(rt; matches!(right.take(), PortTaken::Message(got) if got == n));
-        assert!(rt; matches!(closed.grave.drain(), LineTaken::Item(got) if got == n));
+        assert!(rt; matches!(closed.grave.take_leftover(), LineTaken::Item(got) if got == n));
     }
-    assert!(rt; matches!(closed.grave.drain(), LineTaken::Empty));
+    assert!(rt; matches!(closed.grave.take_leftover(), LineTaken::Empty));
     assert!(rt; matches!(right.take(), PortTaken::Ended));
-    assert!(rt; matches!(closed.grave.drain(), LineTaken::Ended));
+    assert!(rt; matches!(closed.grave.take_leftover(), LineTaken::Ended));
     assert!(rt; matches!(right.post(7), Err((NotPosted::Closed, 7))));
     Ok(())
 }

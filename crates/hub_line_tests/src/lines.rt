@@ -84,14 +84,14 @@ fn a_line_that_was_behind_goes_on_in_a_small_ring(rt: HostRuntime) -> Result<(),
 #[test]
 fn both_ends_know_what_waits(rt: HostRuntime) -> Result<(), Fail> {
     let (mut poster, mut taker) = open_line(rt.alloc())?;
-    assert_eq!(rt; taker.waiting_beside(&mut poster), Some(0));
+    assert_eq!(rt; taker.count_waiting_with_poster(&mut poster), Some(0));
     assert!(rt; posts(&mut poster, 0, 16));
-    assert_eq!(rt; taker.waiting_beside(&mut poster), Some(16));
+    assert_eq!(rt; taker.count_waiting_with_poster(&mut poster), Some(16));
     assert!(rt; posts(&mut poster, 16, 17));
-    assert_eq!(rt; taker.waiting_beside(&mut poster), None);
+    assert_eq!(rt; taker.count_waiting_with_poster(&mut poster), None);
     assert!(rt; takes(&mut taker, 0, 16));
     assert!(rt; taker.has_some());
-    assert_eq!(rt; taker.waiting_beside(&mut poster), Some(1));
+    assert_eq!(rt; taker.count_waiting_with_poster(&mut poster), Some(1));
     Ok(())
 }
 
@@ -106,13 +106,13 @@ fn a_closed_line_hands_back_what_was_posted(rt: HostRuntime) -> Result<(), Fail>
         assert!(rt; takes(&mut taker, 0, taken));
         let mut grave = taker.close();
         for n in taken..posted {
-            assert!(rt; matches!(grave.drain(), LineTaken::Item(got) if got == n));
+            assert!(rt; matches!(grave.take_leftover(), LineTaken::Item(got) if got == n));
         }
-        assert!(rt; matches!(grave.drain(), LineTaken::Empty));
+        assert!(rt; matches!(grave.take_leftover(), LineTaken::Empty));
         assert!(rt; matches!(poster.post(posted), Err((NotPosted::Closed, n)) if n == posted));
         assert!(rt; matches!(poster.post(posted), Err((NotPosted::Closed, _))));
-        assert!(rt; matches!(grave.drain(), LineTaken::Ended));
-        assert!(rt; matches!(grave.drain(), LineTaken::Ended));
+        assert!(rt; matches!(grave.take_leftover(), LineTaken::Ended));
+        assert!(rt; matches!(grave.take_leftover(), LineTaken::Ended));
     }
     Ok(())
 }
@@ -120,11 +120,11 @@ fn a_closed_line_hands_back_what_was_posted(rt: HostRuntime) -> Result<(), Fail>
 #[test]
 fn a_poster_that_asks_ends_a_closed_line(rt: HostRuntime) -> Result<(), Fail> {
     let (mut poster, taker) = open_line::<u64>(rt.alloc())?;
-    assert!(rt; !poster.is_over());
+    assert!(rt; !poster.is_closed_by_taker());
     let mut grave = taker.close();
-    assert!(rt; matches!(grave.drain(), LineTaken::Empty));
-    assert!(rt; poster.is_over());
-    assert!(rt; matches!(grave.drain(), LineTaken::Ended));
+    assert!(rt; matches!(grave.take_leftover(), LineTaken::Empty));
+    assert!(rt; poster.is_closed_by_taker());
+    assert!(rt; matches!(grave.take_leftover(), LineTaken::Ended));
     Ok(())
 }
 

@@ -78,7 +78,7 @@ fn close_behind<R: Wait>(rt: &R, mut taker: LineTaker<u64>, most: u64) -> Option
 fn drain<R: Wait>(rt: &R, mut grave: LineGrave<u64>, from: u64) -> Option<u64> {
     let mut next = from;
     for _ in rt.forever() {
-        match grave.drain() {
+        match grave.take_leftover() {
             LineTaken::Item(n) if n == next => next = next.wrapping_add(1),
             LineTaken::Item(_) => return None,
             LineTaken::Empty => thread::yield_now(),

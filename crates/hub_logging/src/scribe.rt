@@ -27,8 +27,8 @@ use std::sync::Wait;
 ///
 /// ```rust
 /// let mut scribe = Scribe::new(alloc, AgentId(0));
-/// let content = scribe.message_of(&[], &body)?;
-/// scribe.put(posted, content)?;
+/// let content = scribe.content_of_message(&[], &body)?;
+/// scribe.log_posted(posted, content)?;
 /// let log = scribe.into_log();
 /// ```
 pub struct Scribe {
@@ -75,14 +75,14 @@ impl Model for Scribe {
 }
 
 /// Whether the end stands in the list.
-fn is_listed(ends: &[EndId], end: EndId) -> bool
+fn contains_end(ends: &[EndId], end: EndId) -> bool
     ensures { result ≡ lists_end ends.now end.0 }
 {
     ends.iter().any(|other| other.0 == end.0)
 }
 
 /// The ports that came with an envelope and that the loop holds. A notice brings none.
-fn found_ports(
+fn received_ports(
     alloc: Global,
     envelope: &Envelope,
     missing: &[EndId],
@@ -94,7 +94,7 @@ fn found_ports(
     }
     let ports = envelope.ports.as_slice().iter().copied();
     ports
-        .filter(|port| !is_listed(missing, *port))
+        .filter(|port| !contains_end(missing, *port))
         .collect::<Vec<EndId>>(alloc)
 }
 
@@ -114,7 +114,7 @@ impl Scribe {
     }
 
     /// Takes it out, and leaves one that has logged nothing.
-    pub fn take(&mut self) -> Scribe
+    pub fn take_leaving_empty(&mut self) -> Scribe
         ensures given { result ≡ self.old }
         ensures left { self.new
             ≡ record { log = (self.old.log.0, []); adopted = []; messages = 0 } }
@@ -124,7 +124,7 @@ impl Scribe {
     }
 
     /// The agent whose log it keeps.
-    pub fn agent(&self) -> AgentId
+    pub fn agent_id(&self) -> AgentId
         ensures { result ≡ self.now.log.0 }
     {
         self.log.agent()
@@ -145,7 +145,7 @@ impl Scribe {
     }
 
     /// How many messages were delivered, notices not counted.
-    pub fn messages(&self) -> u64
+    pub fn delivered_message_count(&self) -> u64
         ensures { result ≡ self.now.messages }
     {
         self.messages
@@ -160,19 +160,19 @@ impl Scribe {
     }
 
     /// What a log holds of these ports and this body. A list that no log can hold is refused.
-    pub fn message_of(&self, ports: &[EndId], body: &Body) -> Result<Content, OutOfMemory>
+    pub fn content_of_message(&self, ports: &[EndId], body: &Body) -> Result<Content, OutOfMemory>
         ensures copy { IfOk result (λ content. content ≡ Content.Payload (ports.now, body.now)) }
         ensures list { OnOk result (is_port_list ports.now ≡ true) }
     {
         if !is_port_list(ports) {
             return Err(OutOfMemory);
         }
-        Ok(Content::Payload(Payload::copy_of(self.alloc, ports, body)?))
+        Ok(Content::Payload(Payload::copy_of_parts(self.alloc, ports, body)?))
     }
 
     /// What a log holds of an envelope that was delivered. One that no log can hold is refused,
     /// since the log would leave out the adoption of a port.
-    fn content_of(&self, envelope: &Envelope) -> Result<Content, OutOfMemory>
+    fn content_of_delivery(&self, envelope: &Envelope) -> Result<Content, OutOfMemory>
         ensures content { IfOk result (λ content.
             delivery_at (posted_of envelope.now) content ≡ delivered envelope.now) }
         ensures loggable { OnOk result (IsLoggable envelope.now) }
@@ -184,13 +184,13 @@ impl Scribe {
         if envelope.notice {
             return Ok(Content::Notice);
         }
-        self.message_of(ports, &envelope.body)
+        self.content_of_message(ports, &envelope.body)
     }
 
     /// Logs that the agent put it under the name: a post that was accepted, or a notice. An error
     /// changes nothing.
     #[tactic(auto, using(crate::proofs::Notes::closed_more))]
-    pub fn put(&mut self, posted: Posted, content: Content) -> Result<(), OutOfMemory>
+    pub fn log_posted(&mut self, posted: Posted, content: Content) -> Result<(), OutOfMemory>
         ensures ok { OnOk result (self.new ≡ record self.old {
           log = log_with self.old.log (Put (delivery_at posted content));
         }) }
@@ -199,7 +199,7 @@ impl Scribe {
         if !is_name(&posted) {
             return Err(OutOfMemory);
         }
-        self.log.put(posted, content)
+        self.log.record_put(posted, content)
     }
 
     /// Logs an envelope that was delivered. An error changes nothing.
@@ -215,13 +215,13 @@ impl Scribe {
         if !is_name(&posted) {
             return Err(OutOfMemory);
         }
-        let content = self.content_of(envelope)?;
-        self.log.got(posted, content)
+        let content = self.content_of_delivery(envelope)?;
+        self.log.record_got(posted, content)
     }
 
     /// Logs that the end was adopted, and how often it has moved. An error changes nothing.
     #[tactic(auto, using(crate::proofs::Notes::closed_more))]
-    pub fn adopt(&mut self, end: EndId, epoch: u32) -> Result<(), OutOfMemory>
+    pub fn log_adoption(&mut self, end: EndId, epoch: u32) -> Result<(), OutOfMemory>
         ensures ok { OnOk result (self.new ≡ record self.old {
           log = log_with self.old.log (Adopted end epoch);
         }) }
@@ -230,14 +230,14 @@ impl Scribe {
         if u64::from(end.0) > MAX_END || u64::from(epoch) > MAX_EPOCH {
             return Err(OutOfMemory);
         }
-        self.log.adopted(end, epoch)
+        self.log.record_adopted(end, epoch)
     }
 
     /// Logs that the end was closed. It is refused where the log closes it already, and where an
     /// earlier call for the same end was refused for want of memory. An error changes nothing that
     /// is logged.
     #[tactic(auto, using(crate::proofs::Notes::closed_more))]
-    pub fn close(&mut self, end: EndId) -> Result<(), OutOfMemory>
+    pub fn log_closing(&mut self, end: EndId) -> Result<(), OutOfMemory>
         ensures ok { OnOk result (self.new ≡ record self.old {
           log = log_with self.old.log (Closed end);
         }) }
@@ -246,7 +246,7 @@ impl Scribe {
         if u64::from(end.0) > MAX_END || !self.closed.insert(end.0)? {
             return Err(OutOfMemory);
         }
-        self.log.closed(end)
+        self.log.record_closed(end)
     }
 }
 
@@ -265,7 +265,7 @@ impl Handler for Scribe {
         envelope: &Envelope,
         missing: &[EndId],
     ) -> Result<(), OutOfMemory> {
-        let adopted = found_ports(self.alloc, envelope, missing)?;
+        let adopted = received_ports(self.alloc, envelope, missing)?;
         self.log_delivery(envelope)?;
         self.adopted = adopted;
         if !envelope.notice {

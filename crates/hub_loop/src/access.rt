@@ -74,7 +74,7 @@ impl<H: Handler + Drop, C: Checkpoint + Drop> EventLoop<H, C> {
         ensures marks { MarksKept self.old.holding.ends self.new.holding.ends }
         ensures rest { SameButEnds self.old self.new }
     {
-        self.holding.ends.start_kind(Sought::Port, end)
+        self.holding.ends.start_end_of_kind(Sought::Port, end)
     }
 
     /// Enables the client's queue of this number, as `ClientQueue::start_messages` and `loaded`.
@@ -85,7 +85,7 @@ impl<H: Handler + Drop, C: Checkpoint + Drop> EventLoop<H, C> {
         ensures marks { MarksKept self.old.holding.ends self.new.holding.ends }
         ensures rest { SameButEnds self.old self.new }
     {
-        self.holding.ends.start_kind(Sought::Client, end)
+        self.holding.ends.start_end_of_kind(Sought::Client, end)
     }
 
     /// Lends the port of this number. `None` where the loop doesn't hold it.
@@ -95,7 +95,7 @@ impl<H: Handler + Drop, C: Checkpoint + Drop> EventLoop<H, C> {
         ensures none { IfNone result (HoldsNoPort self.old.holding.ends.held end) }
     {
         let key = self.holding.ends.find_end(Sought::Port, end)?;
-        self.holding.ends.lend(key)?.as_port_mut()
+        self.holding.ends.lend_and_mark(key)?.as_port_mut()
     }
 
     /// Lends the client's queue of this number. `None` where the loop doesn't hold it.
@@ -105,7 +105,7 @@ impl<H: Handler + Drop, C: Checkpoint + Drop> EventLoop<H, C> {
         ensures none { IfNone result (HoldsNoClient self.old.holding.ends.held end) }
     {
         let key = self.holding.ends.find_end(Sought::Client, end)?;
-        self.holding.ends.lend(key)?.as_client_mut()
+        self.holding.ends.lend_and_mark(key)?.as_client_mut()
     }
 
     /// Lends the member of this number. `None` where the loop doesn't hold it.
@@ -116,7 +116,7 @@ impl<H: Handler + Drop, C: Checkpoint + Drop> EventLoop<H, C> {
         ensures none { IfNone result (HoldsNoMember self.old.holding.ends.held end) }
     {
         let key = self.holding.ends.find_end(Sought::Member, end)?;
-        self.holding.ends.lend(key)?.as_member_mut()
+        self.holding.ends.lend_and_mark(key)?.as_member_mut()
     }
 
     /// Lends a line that posts at the end of this number. `None` where the loop holds none.
@@ -125,17 +125,17 @@ impl<H: Handler + Drop, C: Checkpoint + Drop> EventLoop<H, C> {
             × (line.now.name.end ≡ end)) }
         ensures none { IfNone result (HoldsNoLine self.old.holding.ends.held end) }
     {
-        let key = self.holding.ends.find_line(end)?;
-        self.holding.ends.lend(key)?.as_line_mut()
+        let key = self.holding.ends.find_line_to(end)?;
+        self.holding.ends.lend_and_mark(key)?.as_line_mut()
     }
 
     /// Whether it holds a line that posts at the end of this number.
-    pub fn has_line(&self, end: EndId) -> bool
+    pub fn has_line_to(&self, end: EndId) -> bool
         ensures some { result ≡ true → (line : StandSeat)
             × Holds self.now.holding.ends.held (LineHeld line) × (line.name.end ≡ end) }
         ensures none { result ≡ false → HoldsNoLine self.now.holding.ends.held end }
     {
-        self.holding.ends.find_line(end).is_some()
+        self.holding.ends.find_line_to(end).is_some()
     }
 
     /// Lends the handler.
@@ -168,7 +168,7 @@ impl<H: Handler + Drop, C: Checkpoint + Drop> EventLoop<H, C> {
     }
 
     /// Shows the port, queue or member of this number. `None` where the loop doesn't hold it.
-    pub fn held(&self, end: EndId) -> Option<&Held>
+    pub fn held_end(&self, end: EndId) -> Option<&Held>
         ensures some { IfSome result (λ held. Holds self.now.holding.ends.held held.now
             × (end_held held.now ≡ Some end)) }
         ensures none { IfNone result (HoldsNoEnd self.now.holding.ends.held end) }
@@ -179,10 +179,10 @@ impl<H: Handler + Drop, C: Checkpoint + Drop> EventLoop<H, C> {
 
     /// The numbers of the ports, queues and members that the loop holds, in the order of their
     /// keys.
-    pub fn ends(&self) -> Result<Vec<EndId>, OutOfMemory>
+    pub fn end_numbers(&self) -> Result<Vec<EndId>, OutOfMemory>
         ensures { IfOk result (λ ends. ends.items ≡ ends_held self.now.holding.ends.held) }
     {
-        self.holding.ends.numbers(self.alloc)
+        self.holding.ends.end_numbers(self.alloc)
     }
 
     /// Gives the port, queue or member of this number out. `None` where the loop doesn't hold it.

@@ -34,7 +34,7 @@ use hub_queue::{AdoptError, Bell};
 use std::sync::Wait;
 
 /// Adopts a queue for the loop that this bell wakes.
-fn adopt_handed<R: Wait>(
+fn adopt_handed_queue<R: Wait>(
     rt: &R,
     hub: &Hub,
     queue: HandedQueue,
@@ -74,7 +74,7 @@ impl Holding {
         let Ok(bell) = self.prepare(queue.id()) else {
             return Err(queue);
         };
-        match adopt_handed(rt, hub, queue, bell) {
+        match adopt_handed_queue(rt, hub, queue, bell) {
             Ok(held) => {
                 self.ends.put(held);
                 Ok(true)
@@ -103,7 +103,7 @@ impl Holding {
     /// Adopts the first of the ports that were found and holds it. One that was adopted too often,
     /// or whose number the yard knows already, is closed and counts as missing.
     #[tactic(auto, using(crate::proofs::Marks::kept_same))]
-    fn adopt_first<R: Wait>(
+    fn adopt_first_port<R: Wait>(
         &mut self,
         rt: &R,
         hub: &Hub,
@@ -131,7 +131,7 @@ impl Holding {
             }
             Err((AdoptError::TooManyMoves | AdoptError::Taken, arrived)) => {
                 let (grave, port) = close_arrived(rt, hub, arrived);
-                self.closed.bury(grave, port);
+                self.closed.add_closed_port(grave, port);
                 receiving.missing.push_reserved(end);
                 Ok(true)
             }
@@ -150,7 +150,7 @@ impl Holding {
         ensures marks { MarksKept self.old.ends self.new.ends }
     {
         loop {
-            match self.adopt_first(rt, hub, receiving) {
+            match self.adopt_first_port(rt, hub, receiving) {
                 Ok(true) => {}
                 Ok(false) => return Ok(()),
                 Err(error) => return Err(error),

@@ -37,7 +37,7 @@ pub struct ClosedEnd {
 
 impl ClosedEnd {
     /// The end of a port that was closed, and the port.
-    pub(crate) fn of_port(left: (Grave, ClosedPort)) -> ClosedEnd
+    pub(crate) fn with_port(left: (Grave, ClosedPort)) -> ClosedEnd
         ensures grave { result.grave ≡ left.0 }
         ensures port { result.port ≡ Some left.1 }
     {
@@ -49,7 +49,7 @@ impl ClosedEnd {
     }
 
     /// A queue's or a member's end was closed to this.
-    pub(crate) fn alone(grave: Grave) -> ClosedEnd
+    pub(crate) fn without_port(grave: Grave) -> ClosedEnd
         ensures grave { result.grave ≡ grave }
         ensures port { result.port ≡ None }
     {

@@ -88,10 +88,10 @@ impl StillOpen {
         ensures err { IfErr result (λ line. self ≡ HeldOpen (LineHeld line)) }
     {
         match self {
-            StillOpen::Held(held) => held.shut(rt, hub),
-            StillOpen::Queue(queue) => Ok(ClosedEnd::alone(queue.close())),
+            StillOpen::Held(held) => held.close_without_roster(rt, hub),
+            StillOpen::Queue(queue) => Ok(ClosedEnd::without_port(queue.close())),
             StillOpen::Arrived(arrived) => {
-                Ok(ClosedEnd::of_port(close_arrived(rt, hub, arrived)))
+                Ok(ClosedEnd::with_port(close_arrived(rt, hub, arrived)))
             }
         }
     }
@@ -130,7 +130,7 @@ impl Closed {
     }
 
     /// Keeps what a port was closed to.
-    pub(crate) fn bury(&mut self, grave: Grave, port: ClosedPort)
+    pub(crate) fn add_closed_port(&mut self, grave: Grave, port: ClosedPort)
         requires { HasRoom self.old 1 }
         ensures graves { self.new.graves.items ≡ self.old.graves.items ++ grave ∷ [] }
         ensures noticed { self.new.noticed.items ≡ self.old.noticed.items ++ port ∷ [] }
@@ -141,7 +141,7 @@ impl Closed {
     }
 
     /// Closes an end, or keeps a line.
-    fn close<R: Wait>(&mut self, rt: &R, hub: &Hub, opened: StillOpen)
+    fn close_and_record<R: Wait>(&mut self, rt: &R, hub: &Hub, opened: StillOpen)
         requires { HasRoom self.old 1 }
         ensures graves { grave_ends self.new.graves.items
             ≡ grave_ends self.old.graves.items ++ open_ends (opened ∷ []) }
@@ -151,7 +151,7 @@ impl Closed {
     {
         match opened.close(rt, hub) {
             Ok(ClosedEnd { grave, port }) => match port {
-                Some(port) => self.bury(grave, port),
+                Some(port) => self.add_closed_port(grave, port),
                 None => self.graves.push_reserved(grave),
             },
             Err(poster) => self.lines.push_reserved(poster),
@@ -159,7 +159,7 @@ impl Closed {
     }
 
     /// Closes these, in order. There is room for what they are closed to.
-    pub(crate) fn close_all<R: Wait>(&mut self, rt: &R, hub: &Hub, all: Vec<StillOpen>)
+    pub(crate) fn close_and_record_all<R: Wait>(&mut self, rt: &R, hub: &Hub, all: Vec<StillOpen>)
         requires { HasRoom self.old (vec_len all) }
         ensures graves { grave_ends self.new.graves.items
             ≡ grave_ends self.old.graves.items ++ open_ends all.items }
@@ -167,23 +167,23 @@ impl Closed {
             self.new.noticed.items }
     {
         for opened in all {
-            self.close(rt, hub, opened);
+            self.close_and_record(rt, hub, opened);
         }
     }
 }
 
 /// Takes the members among these out of the roster, before the first end is closed: nobody casts at
 /// a member of an agent whose queue is closed already.
-pub(crate) fn leave_all<L: Lends<Roster>, R: Wait>(rt: &R, roster: &mut L, all: &[StillOpen]) {
+pub(crate) fn leave_roster<L: Lends<Roster>, R: Wait>(rt: &R, roster: &mut L, all: &[StillOpen]) {
     for opened in all {
         if let StillOpen::Held(held) = opened {
-            held.leave(rt, roster);
+            held.remove_from_roster(rt, roster);
         }
     }
 }
 
 /// How many ports were found for a delivery and not adopted yet.
-fn count_found(kept: &Option<Undelivered>) -> usize
+fn count_found_ports(kept: &Option<Undelivered>) -> usize
     ensures { result ≡ length (found_of kept.now) }
 {
     match kept {
@@ -197,7 +197,7 @@ fn count_found(kept: &Option<Undelivered>) -> usize
 
 /// How many are to be closed.
 #[tactic(auto, using(crate::proofs::Endings::entries_held))]
-fn count_open(
+fn count_all_to_close(
     held: &Slab<Held>,
     fetched: &[HandedQueue],
     kept: &Option<Undelivered>,
@@ -206,11 +206,13 @@ fn count_open(
         ≡ length (entries held.now) + length fetched.now + length (found_of kept.now)) }
 {
     let count = held.len().checked_add(fetched.len()).ok_or(OutOfMemory)?;
-    count.checked_add(count_found(kept)).ok_or(OutOfMemory)
+    count
+        .checked_add(count_found_ports(kept))
+        .ok_or(OutOfMemory)
 }
 
 /// Takes out the ports that were found for a delivery and not adopted yet.
-fn take_found(alloc: Global, kept: &mut Option<Undelivered>) -> VecDeque<Arrived>
+fn take_found_ports(alloc: Global, kept: &mut Option<Undelivered>) -> VecDeque<Arrived>
     ensures items { result.items ≡ found_of kept.old }
     ensures len { deque_len result ≡ length (found_of kept.old) }
 {
@@ -225,7 +227,7 @@ fn take_found(alloc: Global, kept: &mut Option<Undelivered>) -> VecDeque<Arrived
 }
 
 /// Puts what was held to what is to be closed. There is room for it.
-fn add_held(held: Slab<Held>, opened: &mut Vec<StillOpen>)
+fn add_held_ends(held: Slab<Held>, opened: &mut Vec<StillOpen>)
     requires { vec_len opened.old + length (entries held) ≤ vec_capacity opened.old }
     ensures items { opened.new.items
         ≡ opened.old.items ++ map (λ entry. HeldOpen entry.1) (entries held) }
@@ -238,7 +240,7 @@ fn add_held(held: Slab<Held>, opened: &mut Vec<StillOpen>)
 }
 
 /// The same of the queues that were fetched.
-fn add_queues(queues: Vec<HandedQueue>, opened: &mut Vec<StillOpen>)
+fn add_fetched_queues(queues: Vec<HandedQueue>, opened: &mut Vec<StillOpen>)
     requires { vec_len opened.old + vec_len queues ≤ vec_capacity opened.old }
     ensures items { opened.new.items ≡ opened.old.items ++ map QueueOpen queues.items }
     ensures len { vec_len opened.new ≡ vec_len opened.old + vec_len queues }
@@ -250,7 +252,7 @@ fn add_queues(queues: Vec<HandedQueue>, opened: &mut Vec<StillOpen>)
 }
 
 /// The same of the ports that were found.
-fn add_ports(found: VecDeque<Arrived>, opened: &mut Vec<StillOpen>)
+fn add_found_ports(found: VecDeque<Arrived>, opened: &mut Vec<StillOpen>)
     requires { vec_len opened.old + deque_len found ≤ vec_capacity opened.old }
     ensures items { opened.new.items ≡ opened.old.items ++ map ArrivedOpen found.items }
     ensures len { vec_len opened.new ≡ vec_len opened.old + deque_len found }
@@ -264,7 +266,7 @@ impl Holding {
     /// Takes out all that is to be closed: what is held, the queues that were fetched, and the
     /// ports that were found for a kept delivery. The room for them, and for what they are closed
     /// to, is made before anything is moved.
-    pub(crate) fn take_open(
+    pub(crate) fn take_all_to_close(
         &mut self,
         alloc: Global,
         fetched: &mut Vec<HandedQueue>,
@@ -277,7 +279,7 @@ impl Holding {
         ensures err { OnErr result ((holding_of self.new ≡ holding_of self.old)
             × (fetched.new.items ≡ fetched.old.items) × (kept.new ≡ kept.old)) }
     {
-        let count = count_open(&self.ends.held, fetched.as_slice(), kept)?;
+        let count = count_all_to_close(&self.ends.held, fetched.as_slice(), kept)?;
         let mut opened = Vec::with_capacity(alloc, count)?;
         self.closed.reserve(count)?;
         let HeldEnds {
@@ -286,9 +288,9 @@ impl Holding {
             ready: _,
             lines: _,
         } = replace(&mut self.ends, HeldEnds::new(alloc));
-        add_held(held, &mut opened);
-        add_queues(replace(fetched, Vec::new(alloc)), &mut opened);
-        add_ports(take_found(alloc, kept), &mut opened);
+        add_held_ends(held, &mut opened);
+        add_fetched_queues(replace(fetched, Vec::new(alloc)), &mut opened);
+        add_found_ports(take_found_ports(alloc, kept), &mut opened);
         Ok(opened)
     }
 }
@@ -349,10 +351,10 @@ impl<H: Handler + Drop, C: Checkpoint + Drop> EventLoop<H, C> {
         }
         let mut opened = self
             .holding
-            .take_open(self.alloc, &mut self.fetched, &mut self.kept)?;
+            .take_all_to_close(self.alloc, &mut self.fetched, &mut self.kept)?;
         opened.sort_unstable_by_key(|open| open.id().0);
-        leave_all(rt, roster, opened.as_slice());
-        self.holding.closed.close_all(rt, hub, opened);
+        leave_roster(rt, roster, opened.as_slice());
+        self.holding.closed.close_and_record_all(rt, hub, opened);
         let closed = replace(&mut self.holding.closed, Closed::new(self.alloc));
         Ok(Shutdown::new(self.alloc, closed))
     }

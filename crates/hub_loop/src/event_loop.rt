@@ -171,7 +171,7 @@ impl<H: Handler + Drop, C: Checkpoint + Drop> EventLoop<H, C> {
 
     /// Takes up the delivery that was kept, or else asks the ends. Where none gave an envelope it
     /// says whether one was busy. The checkpoint is called once for each envelope.
-    fn take_up<L: Ledger, R: Wait>(
+    fn take_next_delivery<L: Ledger, R: Wait>(
         &mut self,
         rt: &R,
         steps: &mut Steps<L>,
@@ -186,7 +186,7 @@ impl<H: Handler + Drop, C: Checkpoint + Drop> EventLoop<H, C> {
         if let Some(delivery) = self.kept.take() {
             return Ok(delivery);
         }
-        match self.holding.ends.serve(rt, &mut self.listener, steps) {
+        match self.holding.ends.take_next(rt, &mut self.listener, steps) {
             Served::Nothing(busy) => Err(busy),
             Served::Given(_, envelope) => {
                 self.checkpoint.at(rt, self.agent, self.delivered);
@@ -226,7 +226,7 @@ impl<H: Handler + Drop, C: Checkpoint + Drop> EventLoop<H, C> {
         if self.order.seen() {
             return Ok(Turn::Ending);
         }
-        let mut delivery = match self.take_up(rt, steps) {
+        let mut delivery = match self.take_next_delivery(rt, steps) {
             Ok(delivery) => delivery,
             Err(busy) => return Ok(Turn::Idle { busy }),
         };
@@ -263,10 +263,10 @@ impl<H: Handler + Drop, C: Checkpoint + Drop> EventLoop<H, C> {
         ensures ran { Runs H.leaves H.refuses self.old self.new result }
         ensures ordered { OnOk result (knows self.new.order ≡ true) }
     {
-        self.run_counted::<Brand, R>(rt, hub, Blank::new(2))
+        self.run_counting_pops::<Brand, R>(rt, hub, Blank::new(2))
     }
 
-    fn run_counted<L: Ledger, R: Wait>(
+    fn run_counting_pops<L: Ledger, R: Wait>(
         &mut self,
         rt: &R,
         hub: &Hub,
@@ -276,7 +276,7 @@ impl<H: Handler + Drop, C: Checkpoint + Drop> EventLoop<H, C> {
         ensures ran { Runs H.leaves H.refuses self.old self.new result }
         ensures ordered { OnOk result (knows self.new.order ≡ true) }
     {
-        let mut steps = Steps::<L>::begin(blank);
+        let mut steps = Steps::<L>::new_at_zero(blank);
         for _ in rt.forever() {
             match self.turn(rt, hub, &mut steps) {
                 Ok(Turn::Ending) => return Ok(()),
@@ -309,7 +309,8 @@ impl<H: Handler + Drop, C: Checkpoint + Drop> EventLoop<H, C> {
         ensures rest { SameButFetched self.old self.new }
     {
         self.fetched.reserve(1)?;
-        let Some(queue) = take_fetched(rt, directory, &mut self.fetched, end, self.agent) else {
+        let Some(queue) = take_fetched_or_handed(rt, directory, &mut self.fetched, end, self.agent)
+        else {
             return Ok(false);
         };
         match self.holding.adopt_queue(rt, hub, queue) {
@@ -323,7 +324,7 @@ impl<H: Handler + Drop, C: Checkpoint + Drop> EventLoop<H, C> {
 }
 
 /// Takes the queue of this number out of those that were fetched, or else out of the directory.
-fn take_fetched<R: Wait>(
+fn take_fetched_or_handed<R: Wait>(
     rt: &R,
     directory: &Directory,
     fetched: &mut Vec<HandedQueue>,
@@ -341,6 +342,6 @@ fn take_fetched<R: Wait>(
             return Some(fetched.swap_remove(place));
         }
     }
-    let handed = directory.fetch(rt, end, agent)?;
+    let handed = directory.fetch_handed_queue(rt, end, agent)?;
     Some(handed.queue)
 }

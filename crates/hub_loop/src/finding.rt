@@ -32,7 +32,7 @@ use std::alloc::Global;
 use std::collections::BTreeSet;
 
 /// Lists a line that is to be held under this key.
-fn list_line(
+fn record_line_key(
     lines: &mut BTreeSet<(EndId, usize)>,
     held: &Held,
     key: usize,
@@ -44,23 +44,23 @@ fn list_line(
 }
 
 /// The least key that is listed under this number.
-fn key_of(lines: &BTreeSet<(EndId, usize)>, end: EndId) -> Option<usize> {
+fn first_line_key(lines: &BTreeSet<(EndId, usize)>, end: EndId) -> Option<usize> {
     let found = lines.range((end, 0)..=(end, usize::MAX)).next()?;
     Some(found.1)
 }
 
 /// Whether the end of this kind and number is held there.
-fn is_end(slot: Option<&Held>, kind: Sought, end: EndId) -> bool
+fn is_end_of_kind(slot: Option<&Held>, kind: Sought, end: EndId) -> bool
     ensures { (result ≡ true) ↔ IsSlotOf (IsEndOf kind end) (option_copied slot.entry) }
 {
     match slot {
-        Some(held) => held.is_a(kind) && held.id() == end,
+        Some(held) => held.is_of_kind(kind) && held.id() == end,
         None => false,
     }
 }
 
 /// Whether a line that posts at the end of this number is held there.
-fn is_line(slot: Option<&Held>, end: EndId) -> bool
+fn is_line_to(slot: Option<&Held>, end: EndId) -> bool
     ensures { (result ≡ true) ↔ IsSlotOf (IsLineTo end) (option_copied slot.entry) }
 {
     match slot {
@@ -70,7 +70,7 @@ fn is_line(slot: Option<&Held>, end: EndId) -> bool
 }
 
 /// The first marked key from the one up to the other.
-pub(crate) fn next_marked(marks: &Marks, low: usize, high: usize) -> Option<usize>
+pub(crate) fn first_marked_in_range(marks: &Marks, low: usize, high: usize) -> Option<usize>
     ensures some { IfSome result (λ key. (key < high) × IsFirstFrom marks.now low key) }
     ensures none { IfNone result (ClearBetween marks.now low high) }
 {
@@ -92,7 +92,7 @@ impl HeldEnds {
         let end = held.end_id();
         let key = self.held.insert_reserved(held);
         if let Some(end) = end {
-            self.ready.place(end, key);
+            self.ready.mark_and_list(end, key);
         }
     }
 
@@ -106,7 +106,7 @@ impl HeldEnds {
         if self.make_room(held.end_id()).is_err() {
             return Err((LoopError::OutOfMemory, held));
         }
-        if list_line(&mut self.lines, &held, self.held.vacant_key()).is_err() {
+        if record_line_key(&mut self.lines, &held, self.held.vacant_key()).is_err() {
             return Err((LoopError::OutOfMemory, held));
         }
         self.put(held);
@@ -139,7 +139,7 @@ impl HeldEnds {
         ensures marks { MarksKept self.old self.new }
     {
         let key = self.find_end(Sought::End, end)?;
-        self.ready.forget(end, key);
+        self.ready.unmark_and_unlist(end, key);
         self.held.try_remove(key)
     }
 
@@ -151,8 +151,8 @@ impl HeldEnds {
     {
         let high = self.held.capacity();
         let mut key = 0;
-        'marks: while let Some(marked) = next_marked(&self.ready.marks, key, high) {
-            if is_end(self.held.get(marked), kind, end) {
+        'marks: while let Some(marked) = first_marked_in_range(&self.ready.marks, key, high) {
+            if is_end_of_kind(self.held.get(marked), kind, end) {
                 return Some(marked);
             }
             key = marked + 1;
@@ -164,8 +164,8 @@ impl HeldEnds {
     pub(crate) fn find_end(&self, kind: Sought, end: EndId) -> Option<usize>
         ensures { IsFound (IsEndOf kind end) self.now.held result }
     {
-        if let Some(key) = self.ready.key_of(end) {
-            if is_end(self.held.get(key), kind, end) {
+        if let Some(key) = self.ready.key_of_end(end) {
+            if is_end_of_kind(self.held.get(key), kind, end) {
                 return Some(key);
             }
         }
@@ -174,16 +174,16 @@ impl HeldEnds {
 
     /// The key of a line that posts at the end of this number. A borrower may have left another one
     /// where it is listed, so that all are looked at where it isn't found there.
-    pub(crate) fn find_line(&self, end: EndId) -> Option<usize>
+    pub(crate) fn find_line_to(&self, end: EndId) -> Option<usize>
         ensures { IsFound (IsLineTo end) self.now.held result }
     {
-        if let Some(key) = key_of(&self.lines, end) {
-            if is_line(self.held.get(key), end) {
+        if let Some(key) = first_line_key(&self.lines, end) {
+            if is_line_to(self.held.get(key), end) {
                 return Some(key);
             }
         }
         for key in 0..self.held.capacity() {
-            if is_line(self.held.get(key), end) {
+            if is_line_to(self.held.get(key), end) {
                 return Some(key);
             }
         }
@@ -191,7 +191,7 @@ impl HeldEnds {
     }
 
     /// Lends what is held under a key, and marks it: whoever borrows an end may start it.
-    pub(crate) fn lend(&mut self, key: usize) -> Option<&mut Held>
+    pub(crate) fn lend_and_mark(&mut self, key: usize) -> Option<&mut Held>
         ensures { option_copied_mut result ≡ get self.old.held key }
     {
         if !self.held.contains(key) {
@@ -203,7 +203,7 @@ impl HeldEnds {
 
     /// Enables the end of this kind and number, and marks it: something may wait there. Whether it
     /// is held.
-    pub(crate) fn start_kind(&mut self, kind: Sought, end: EndId) -> bool
+    pub(crate) fn start_end_of_kind(&mut self, kind: Sought, end: EndId) -> bool
         ensures held { IsStartedAs kind self.old.held self.new.held end result }
         ensures marks { MarksKept self.old self.new }
     {
@@ -221,7 +221,7 @@ impl HeldEnds {
     }
 
     /// The numbers of the ends, in the order of their keys.
-    pub(crate) fn numbers(&self, alloc: Global) -> Result<Vec<EndId>, OutOfMemory>
+    pub(crate) fn end_numbers(&self, alloc: Global) -> Result<Vec<EndId>, OutOfMemory>
         ensures { IfOk result (λ ends. ends.items ≡ ends_held self.now.held) }
     {
         let mut numbers = Vec::new(alloc);

@@ -16,7 +16,7 @@ ghost use Rattle.hub_loop.specs.declared.held.Held.TheVariants.{
 };
 
 use crate::closed::{ClosedEnd, close_port};
-use hub_broadcast::{Member, Roster, leave_in};
+use hub_broadcast::{Member, Roster, leave_lent_roster};
 use hub_clients::{ClientQueue, WorkerQueue};
 use hub_envelope::EndId;
 use hub_locked::Lends;
@@ -70,7 +70,7 @@ impl Held {
     }
 
     /// Whether it is an end of this kind.
-    pub(crate) fn is_a(&self, kind: Sought) -> bool
+    pub(crate) fn is_of_kind(&self, kind: Sought) -> bool
         ensures { result ≡ is_a kind self.now }
     {
         match self {
@@ -178,24 +178,24 @@ impl Held {
     }
     /// Takes a member out of the roster: nobody casts there from then on. Any other end, and a
     /// line, is as it was.
-    pub(crate) fn leave<L: Lends<Roster>, R: Wait>(&self, rt: &R, roster: &mut L)
+    pub(crate) fn remove_from_roster<L: Lends<Roster>, R: Wait>(&self, rt: &R, roster: &mut L)
         ensures { L.shown roster.new ≡ left_by self.now (L.shown roster.old) }
     {
         if let Held::Member(member) = self {
-            leave_in(rt, roster, member.id());
+            leave_lent_roster(rt, roster, member.id());
         }
     }
 
     /// Closes an end that is no member of the roster any more, a port with its notice.
-    pub fn shut<R: Wait>(self, rt: &R, hub: &Hub) -> Result<ClosedEnd, Poster>
+    pub fn close_without_roster<R: Wait>(self, rt: &R, hub: &Hub) -> Result<ClosedEnd, Poster>
         ensures ok { IfOk result (IsEndClosed self) }
         ensures err { IfErr result (λ line. self ≡ LineHeld line) }
     {
         match self {
-            Held::Port(port) => Ok(ClosedEnd::of_port(close_port(rt, hub, port))),
-            Held::Client(queue) => Ok(ClosedEnd::alone(queue.close())),
-            Held::Worker(queue) => Ok(ClosedEnd::alone(queue.close())),
-            Held::Member(member) => Ok(ClosedEnd::alone(member.close())),
+            Held::Port(port) => Ok(ClosedEnd::with_port(close_port(rt, hub, port))),
+            Held::Client(queue) => Ok(ClosedEnd::without_port(queue.close())),
+            Held::Worker(queue) => Ok(ClosedEnd::without_port(queue.close())),
+            Held::Member(member) => Ok(ClosedEnd::without_port(member.close())),
             Held::Line(poster) => Err(poster),
         }
     }
@@ -212,7 +212,7 @@ impl Held {
         ensures err { IfErr result (λ line. self ≡ LineHeld line) }
         ensures left { L.shown roster.new ≡ left_by self (L.shown roster.old) }
     {
-        self.leave(rt, roster);
-        self.shut(rt, hub)
+        self.remove_from_roster(rt, roster);
+        self.close_without_roster(rt, hub)
     }
 }

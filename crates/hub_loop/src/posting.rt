@@ -58,12 +58,12 @@ impl Held {
 
 impl HeldEnds {
     /// The key of the port or the line over which this goes.
-    fn find_way(&self, way: Way) -> Option<usize>
+    fn find_port_or_line(&self, way: Way) -> Option<usize>
         ensures { IsFound (IsWay way) self.now.held result }
     {
         match way {
             Way::Port(end) => self.find_end(Sought::Port, end),
-            Way::Line(end) => self.find_line(end),
+            Way::Line(end) => self.find_line_to(end),
         }
     }
 
@@ -88,7 +88,7 @@ impl HeldEnds {
         ensures back { IfNone result (parcel.new ≡ parcel.old) }
         ensures marks { SameMarks self.old self.new }
     {
-        let key = self.find_way(way)?;
+        let key = self.find_port_or_line(way)?;
         self.held
             .get_mut(key)?
             .post(rt, hub, agent, parcel, closings)

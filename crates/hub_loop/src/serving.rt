@@ -16,7 +16,7 @@ ghost use Rattle.hub_loop.specs.Serving.{
 };
 
 use crate::ends::HeldEnds;
-use crate::finding::next_marked;
+use crate::finding::first_marked_in_range;
 use crate::held::Held;
 use hub_envelope::Envelope;
 use hub_queue::{Listener, Steps, Took};
@@ -37,7 +37,7 @@ pub(crate) enum Served {
 
 impl Served {
     /// What the answer of the end under this key comes to; of a line and of nothing there is none.
-    fn by(key: usize, answer: Option<Took>) -> Served
+    fn from_answer(key: usize, answer: Option<Took>) -> Served
         ensures { result ≡ served_by key answer }
     {
         match answer {
@@ -51,7 +51,7 @@ impl Served {
 }
 
 /// Asks the end under a key, if there is one.
-fn ask_at<L: Ledger, R: Wait>(
+fn ask_end_at_key<L: Ledger, R: Wait>(
     rt: &R,
     held: &mut Slab<Held>,
     key: usize,
@@ -60,19 +60,19 @@ fn ask_at<L: Ledger, R: Wait>(
     ensures { IsAskedAt held.old held.new key steps.old steps.new result }
 {
     match held.get_mut(key) {
-        Some(held) => Served::by(key, held.ask(rt, steps)),
+        Some(held) => Served::from_answer(key, held.ask(rt, steps)),
         None => Served::Nothing(false),
     }
 }
 
 /// Whether an end that gave nothing can go without its mark: its number leads to it. One that
 /// wasn't enabled is marked again by the loan in which it is.
-fn is_listed(held: &Slab<Held>, ready: &Ready, key: usize) -> bool
+fn may_clear_mark(held: &Slab<Held>, ready: &Ready, key: usize) -> bool
     ensures { result ≡ true → IsListedAt ready.now.listed.items key (get held.now key) }
 {
     match held.get(key) {
         Some(held) => match held.end_id() {
-            Some(end) => ready.leads_to(end, key),
+            Some(end) => ready.is_key_of_end(end, key),
             None => true,
         },
         None => true,
@@ -87,13 +87,13 @@ enum Which {
 }
 
 /// The first of these keys from the one up to the other.
-fn next_key(marks: &Marks, which: Which, low: usize, high: usize) -> Option<usize>
+fn first_key_in_range(marks: &Marks, which: Which, low: usize, high: usize) -> Option<usize>
     ensures some { IfSome result (λ key. (low ≤ key) × (key < high)
         × NoneBetween which marks.now low key) }
     ensures none { IfNone result (NoneBetween which marks.now low high) }
 {
     match which {
-        Which::Marked => next_marked(marks, low, high),
+        Which::Marked => first_marked_in_range(marks, low, high),
         Which::Each if low < high => Some(low),
         Which::Each => None,
     }
@@ -104,16 +104,21 @@ const A_TIME: usize = 64;
 
 impl HeldEnds {
     /// Asks the end under a key, if there is one. Its mark stays where more may wait there.
-    fn ask<L: Ledger, R: Wait>(&mut self, rt: &R, key: usize, steps: &mut Steps<L>) -> Served
+    fn ask_and_mark<L: Ledger, R: Wait>(
+        &mut self,
+        rt: &R,
+        key: usize,
+        steps: &mut Steps<L>,
+    ) -> Served
         ensures asked { IsAskedAt self.old.held self.new.held key steps.old steps.new result }
         ensures others { SameBut key self.old.ready.marks self.new.ready.marks }
         ensures given { IsServedMarked self.new.ready.marks result }
         ensures capacity { self.new.held.capacity ≡ self.old.held.capacity }
         ensures next { self.new.next ≡ self.old.next }
     {
-        let served = ask_at(rt, &mut self.held, key, steps);
+        let served = ask_end_at_key(rt, &mut self.held, key, steps);
         match &served {
-            Served::Nothing(false) if is_listed(&self.held, &self.ready, key) => {
+            Served::Nothing(false) if may_clear_mark(&self.held, &self.ready, key) => {
                 self.ready.marks.clear(key);
             }
             Served::Nothing(_) | Served::Given(_, _) => self.ready.marks.set(key),
@@ -123,9 +128,9 @@ impl HeldEnds {
 
     /// Asks these ends of a range in order, up to the first that gives an envelope: the next asking
     /// begins behind it. `was` tells whether an end was busy before.
-    // It is inlined, and so is `serve_marked`, since each return would copy an envelope.
+    // It is inlined, and so is `take_from_marked`, since each return would copy an envelope.
     #[inline(always)]
-    fn walk<L: Ledger, R: Wait>(
+    fn take_in_range<L: Ledger, R: Wait>(
         &mut self,
         rt: &R,
         which: Which,
@@ -143,8 +148,8 @@ impl HeldEnds {
     {
         let mut busy = was;
         let mut from = low;
-        'keys: while let Some(key) = next_key(&self.ready.marks, which, from, high) {
-            match self.ask(rt, key, steps) {
+        'keys: while let Some(key) = first_key_in_range(&self.ready.marks, which, from, high) {
+            match self.ask_and_mark(rt, key, steps) {
                 Served::Nothing(here) => busy = here | busy,
                 served => {
                     self.next = key + 1;
@@ -159,7 +164,7 @@ impl HeldEnds {
     /// Looks which ends were rung, and asks the marked ones in order, from the next key on and then
     /// from the first.
     #[inline(always)]
-    fn serve_marked<L: Ledger, R: Wait>(
+    fn take_from_marked<L: Ledger, R: Wait>(
         &mut self,
         rt: &R,
         listener: &mut Listener,
@@ -172,11 +177,11 @@ impl HeldEnds {
         ensures next { self.new.next ≡ next_after self.old.next result }
         ensures capacity { self.new.held.capacity ≡ self.old.held.capacity }
     {
-        self.ready.gather(listener);
+        self.ready.mark_rung_ends(listener);
         let next = self.next;
         let high = self.held.capacity();
-        match self.walk(rt, Which::Marked, next, high, was, steps) {
-            Served::Nothing(busy) => self.walk(rt, Which::Marked, 0, next, busy, steps),
+        match self.take_in_range(rt, Which::Marked, next, high, was, steps) {
+            Served::Nothing(busy) => self.take_in_range(rt, Which::Marked, 0, next, busy, steps),
             served => served,
         }
     }
@@ -184,7 +189,7 @@ impl HeldEnds {
     /// Asks each end of a range in order, up to the first that gives an envelope. From time to time
     /// it serves the marked ones first.
     #[inline(never)]
-    fn serve_each<L: Ledger, R: Wait>(
+    fn take_from_each<L: Ledger, R: Wait>(
         &mut self,
         rt: &R,
         listener: &mut Listener,
@@ -203,23 +208,23 @@ impl HeldEnds {
         let mut busy = was;
         let mut from = low;
         'parts: while high - from > A_TIME {
-            match self.walk(rt, Which::Each, from, from + A_TIME, busy, steps) {
+            match self.take_in_range(rt, Which::Each, from, from + A_TIME, busy, steps) {
                 Served::Nothing(now) => busy = now,
                 served => return served,
             }
-            match self.serve_marked(rt, listener, busy, steps) {
+            match self.take_from_marked(rt, listener, busy, steps) {
                 Served::Nothing(now) => busy = now,
                 served => return served,
             }
             from += A_TIME;
         }
-        self.walk(rt, Which::Each, from, high, busy, steps)
+        self.take_in_range(rt, Which::Each, from, high, busy, steps)
     }
 
     /// Asks the ends in turn, beginning behind the one served last. Ends that are not marked, and
     /// whose ready bits are clear, are passed over while a marked one gives an envelope; where none
     /// does each is asked.
-    pub(crate) fn serve<L: Ledger, R: Wait>(
+    pub(crate) fn take_next<L: Ledger, R: Wait>(
         &mut self,
         rt: &R,
         listener: &mut Listener,
@@ -233,10 +238,12 @@ impl HeldEnds {
     {
         let next = self.next;
         let high = self.held.capacity();
-        match self.serve_marked(rt, listener, false, steps) {
+        match self.take_from_marked(rt, listener, false, steps) {
             Served::Nothing(marked) => {
-                match self.serve_each(rt, listener, next, high, marked, steps) {
-                    Served::Nothing(ahead) => self.serve_each(rt, listener, 0, next, ahead, steps),
+                match self.take_from_each(rt, listener, next, high, marked, steps) {
+                    Served::Nothing(ahead) => self.take_from_each(
+                        rt, listener, 0, next, ahead, steps,
+                    ),
                     served => served,
                 }
             }

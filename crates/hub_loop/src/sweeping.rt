@@ -72,7 +72,7 @@ impl Model for Shutdown {
 }
 
 /// Takes the ports that an envelope names out of flight.
-fn take_named<R: Wait>(
+fn take_named_ports<R: Wait>(
     rt: &R,
     hub: &Hub,
     envelope: &Envelope,
@@ -83,7 +83,7 @@ fn take_named<R: Wait>(
 }
 
 /// Sweeps these closed ends, in order. After an error the others are still there.
-fn sweep_all<R: Wait>(
+fn sweep_all_graves<R: Wait>(
     rt: &R,
     graves: &mut VecDeque<Grave>,
     swept: &mut Vec<Swept>,
@@ -95,7 +95,7 @@ fn sweep_all<R: Wait>(
     while !graves.is_empty() {
         swept.reserve(1)?;
         let grave = graves.pop_front().unwrap();
-        match grave.sweep_out(rt) {
+        match grave.sweep_until_empty(rt) {
             Ok(discarded) => swept.push_reserved(discarded),
             Err(grave) => {
                 graves.push_front_reserved(grave);
@@ -107,7 +107,7 @@ fn sweep_all<R: Wait>(
 }
 
 /// Closes these ports, in order: their graves are to be swept behind the others.
-fn close_found<R: Wait>(
+fn close_found_ports<R: Wait>(
     rt: &R,
     hub: &Hub,
     found: &mut VecDeque<Arrived>,
@@ -129,7 +129,7 @@ fn close_found<R: Wait>(
 }
 
 /// Takes the ports of the next discarded envelope out of flight. Whether there was one.
-fn look_further<R: Wait>(
+fn take_ports_of_next_envelope<R: Wait>(
     rt: &R,
     hub: &Hub,
     swept: &[Swept],
@@ -144,20 +144,20 @@ fn look_further<R: Wait>(
         *next = (place + 1, 0);
         return Ok(true);
     };
-    *found = take_named(rt, hub, envelope)?;
+    *found = take_named_ports(rt, hub, envelope)?;
     *next = (place, count + 1);
     Ok(true)
 }
 
 /// Gives the lines back. One that the directory refuses is dropped.
-fn give_back<R: Wait>(rt: &R, directory: &Directory, lines: &mut Vec<Poster>) {
+fn give_back_lines<R: Wait>(rt: &R, directory: &Directory, lines: &mut Vec<Poster>) {
     while let Some(poster) = lines.pop() {
         drop(directory.give_back(rt, poster));
     }
 }
 
 /// Takes the ports of a kept delivery out of flight, if that wasn't done.
-fn look_for_kept<R: Wait>(
+fn take_ports_of_kept_delivery<R: Wait>(
     rt: &R,
     hub: &Hub,
     kept: &mut Option<Undelivered>,
@@ -165,7 +165,7 @@ fn look_for_kept<R: Wait>(
 ) -> Result<(), OutOfMemory> {
     if let Some(delivery) = kept {
         if delivery.arrival.is_none() {
-            *found = take_named(rt, hub, &delivery.envelope)?;
+            *found = take_named_ports(rt, hub, &delivery.envelope)?;
         }
     }
     *kept = None;
@@ -214,20 +214,20 @@ impl Shutdown {
 
     /// Closes and sweeps the ports that were found, and looks for those of the next discarded
     /// envelope. Whether there was one.
-    fn close_further<R: Wait>(&mut self, rt: &R, hub: &Hub) -> Result<bool, OutOfMemory>
+    fn close_found_and_find_next<R: Wait>(&mut self, rt: &R, hub: &Hub) -> Result<bool, OutOfMemory>
         ensures further { NamedBehind (closing_ends self.old) (closing_ends self.new)
             self.old.noticed self.new.noticed }
         ensures all { OnOk result (self.new.graves ≡ []) }
     {
-        close_found(
+        close_found_ports(
             rt,
             hub,
             &mut self.found,
             &mut self.graves,
             &mut self.noticed,
         )?;
-        sweep_all(rt, &mut self.graves, &mut self.swept)?;
-        look_further(
+        sweep_all_graves(rt, &mut self.graves, &mut self.swept)?;
+        take_ports_of_next_envelope(
             rt,
             hub,
             self.swept.as_slice(),
@@ -249,11 +249,11 @@ impl Shutdown {
             self.old.noticed self.new.noticed }
         ensures all { OnOk result (self.new.graves ≡ []) }
     {
-        sweep_all(rt, &mut self.graves, &mut self.swept)?;
-        give_back(rt, directory, &mut self.lines);
-        look_for_kept(rt, hub, kept, &mut self.found)?;
+        sweep_all_graves(rt, &mut self.graves, &mut self.swept)?;
+        give_back_lines(rt, directory, &mut self.lines);
+        take_ports_of_kept_delivery(rt, hub, kept, &mut self.found)?;
         for _ in rt.forever() {
-            if !self.close_further(rt, hub)? {
+            if !self.close_found_and_find_next(rt, hub)? {
                 return Ok(());
             }
         }

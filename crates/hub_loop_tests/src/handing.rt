@@ -95,7 +95,7 @@ impl Stage<'_> {
     fn moves<R: Wait>(&mut self, rt: &R) -> bool {
         let (hub, directory) = (&self.shared.hub, &self.shared.directory);
         self.hands(rt)
-            && self.from.held(EndId(0)).is_none()
+            && self.from.held_end(EndId(0)).is_none()
             && is_idle(rt, hub, &mut self.from, false)
             && self.to.fetch(rt, hub, directory, EndId(0)).ok() == Some(true)
             && match self.to.client_mut(EndId(0)) {

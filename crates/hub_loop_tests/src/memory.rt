@@ -38,7 +38,10 @@ fn sweeps<R: Wait>(rt: &R, shared: &Shared, mut event_loop: Loop) -> Option<bool
         Err(_) => true,
     };
     let ended = ended(rt, shared, event_loop)?;
-    let is_right = match shared.directory.fetch(rt, EndId(0), AgentId(1)) {
+    let is_right = match shared
+        .directory
+        .fetch_handed_queue(rt, EndId(0), AgentId(1))
+    {
         Some(handed) => {
             drop(handed.queue.close());
             is_left(&ended, &[], &[])

@@ -8,5 +8,5 @@ mod program;
 mod run;
 
 pub use hub_run::{Checkpoint, NoCheckpoint};
-pub use program::{Mode, mode_of, run_mode, run_words};
+pub use program::{Mode, mode_of, run_mode, run_with_arguments};
 pub use run::{run_file, run_script};

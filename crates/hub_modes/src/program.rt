@@ -40,7 +40,7 @@ pub fn mode_of(words: &[String]) -> Option<Mode>
 
 /// Runs the mode that the words after the program's name ask for. Where they ask for none, nothing
 /// is read or written, and the usage line is due.
-pub fn run_words<R: Read, W: Write, T: Threads + Wait + Sync>(
+pub fn run_with_arguments<R: Read, W: Write, T: Threads + Wait + Sync>(
     alloc: Global,
     rt: &T,
     words: &[String],

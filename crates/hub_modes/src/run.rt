@@ -13,8 +13,8 @@ ghost use Rattle.hub_modes.specs.RunOutput.{
 
 use hub_check::verdict_line;
 use hub_engine::{
-    CountedReader, CountedWriter, Device, ExitStatus, InputError, end_out_of_memory, end_unread,
-    end_with, read_input,
+    CountedReader, CountedWriter, Device, ExitStatus, InputError, read_input, write_and_flush,
+    write_input_error, write_out_of_memory,
 };
 use hub_run::{Checkpoint, run_agents};
 use hub_script::Script;
@@ -41,14 +41,14 @@ pub fn run_file<C: Checkpoint + Sync, R: Read, W: Write, T: Threads + Wait + Syn
         reader.old reader.new writer.old writer.new result }
 {
     match read_input(alloc, reader) {
-        Ok(input) => run_input(alloc, rt, &input, checkpoint, writer),
+        Ok(input) => run_script_text(alloc, rt, &input, checkpoint, writer),
         Err(InputError::Device) => Err(Device),
-        Err(InputError::OutOfMemory) => end_out_of_memory(writer),
+        Err(InputError::OutOfMemory) => write_out_of_memory(writer),
     }
 }
 
 /// Runs the script that the input spells, or tells its first bad line.
-fn run_input<C: Checkpoint + Sync, W: Write, T: Threads + Wait + Sync>(
+fn run_script_text<C: Checkpoint + Sync, W: Write, T: Threads + Wait + Sync>(
     alloc: Global,
     rt: &T,
     input: &[u8],
@@ -59,7 +59,7 @@ fn run_input<C: Checkpoint + Sync, W: Write, T: Threads + Wait + Sync>(
 {
     match Script::read(alloc, input) {
         Ok(script) => run_script(alloc, rt, &script, checkpoint, writer),
-        Err((line, error)) => end_unread(alloc, writer, line, error.kind()),
+        Err((line, error)) => write_input_error(alloc, writer, line, error.kind()),
     }
 }
 
@@ -80,7 +80,7 @@ pub fn run_script<C: Checkpoint + Sync, W: Write, T: Threads + Wait + Sync>(
 {
     match run_agents(alloc, rt, script, checkpoint) {
         Ok(run) => write_run(alloc, &run.logs, writer),
-        Err(_) => end_out_of_memory(writer),
+        Err(_) => write_out_of_memory(writer),
     }
 }
 
@@ -93,8 +93,8 @@ fn write_run<W: Write>(
     ensures { EndsOutput W.contents (IsRunText logs.now) writer.old writer.new result }
 {
     match text_of_run(alloc, logs) {
-        Ok((text, status)) => end_with(writer, text.as_bytes(), status),
-        Err(_) => end_out_of_memory(writer),
+        Ok((text, status)) => write_and_flush(writer, text.as_bytes(), status),
+        Err(_) => write_out_of_memory(writer),
     }
 }
 

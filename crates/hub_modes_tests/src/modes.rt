@@ -5,7 +5,7 @@ use crate::failures::RUNS;
 use hub_engine::{
     CountedReader, CountedWriter, Device, Ending, ExitStatus, InputError, read_input,
 };
-use hub_modes::{Mode, run_mode, run_words};
+use hub_modes::{Mode, run_mode, run_with_arguments};
 use std::alloc::Global;
 use std::io::{Read, Write};
 use std::sync::Wait;
@@ -45,7 +45,7 @@ fn runs_the_mode_that_is_named(rt: HostRuntime) -> Result<(), Fail> {
         let input: &[u8] = b"hublog 9\n";
         let mut reader = CountedReader::new(input);
         let mut writer = CountedWriter::new(Vec::<u8>::new(rt.alloc()));
-        let answer = run_words(rt.alloc(), &rt, &typed, &mut reader, &mut writer);
+        let answer = run_with_arguments(rt.alloc(), &rt, &typed, &mut reader, &mut writer);
         assert_eq!(rt; answer, Ok(status));
         assert_eq!(rt; writer.into_inner().as_slice(), output);
     }

@@ -161,7 +161,7 @@ impl Player {
         let Some(event_loop) = loop_of(&mut self.agents, agent) else {
             return Err(Stop::Unexpected);
         };
-        let held = match event_loop.held(end) {
+        let held = match event_loop.held_end(end) {
             Some(Held::Port(port)) => Some(("holds port", port.moves())),
             Some(Held::Client(queue)) => Some(("holds client", queue.moves())),
             Some(Held::Worker(queue)) => Some(("holds worker", queue.moves())),
@@ -172,7 +172,7 @@ impl Player {
             Some(poster) => Some(poster.name().line.0),
             None => None,
         };
-        if line.is_some() != event_loop.has_line(end) {
+        if line.is_some() != event_loop.has_line_to(end) {
             return Err(Stop::Unexpected);
         }
         match (held, line) {

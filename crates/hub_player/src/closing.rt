@@ -83,7 +83,7 @@ impl Player {
 
     /// Closes a queue that was handed on and wasn't adopted.
     fn close_handed<R: Wait>(&mut self, rt: &R, agent: AgentId, end: EndId) -> Result<Shown, Stop> {
-        let Some(Handed { queue, to: _ }) = self.directory.fetch(rt, end, agent) else {
+        let Some(Handed { queue, to: _ }) = self.directory.fetch_handed_queue(rt, end, agent) else {
             return Err(Stop::Unexpected);
         };
         self.bury(queue.close())?;

@@ -107,7 +107,7 @@ impl Player {
             return Err(Stop::Unexpected);
         };
         seat.place = Place::Swept;
-        let shown = Shown::Answer(Outcome::Discarded(Items::of(swept.into_envelopes())));
+        let shown = Shown::Answer(Outcome::Discarded(Items::of_list(swept.into_envelopes())));
         told.tell_made("sweep", end.0, None, &shown)
     }
 }

@@ -79,7 +79,7 @@ impl Player {
                     event_loop: Some(event_loop),
                     ..
                 },
-            ) => event_loop.has_line(end),
+            ) => event_loop.has_line_to(end),
             _ => false,
         }
     }

@@ -123,7 +123,7 @@ impl Player {
             Ok(false) => return answer(Outcome::TooManyMoves),
             Err(LoopError::OutOfMemory) => return Err(Stop::OutOfMemory),
         }
-        let moves = match event_loop.held(end) {
+        let moves = match event_loop.held_end(end) {
             Some(Held::Client(queue)) => queue.moves(),
             Some(Held::Worker(queue)) => queue.moves(),
             _ => return Err(Stop::Unexpected),

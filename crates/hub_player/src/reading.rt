@@ -4,8 +4,8 @@ use crate::asking::asked_in;
 use crate::player::{Player, Stop};
 use crate::told::Told;
 use hub_engine::{
-    CountedReader, CountedWriter, Device, ExitStatus, InputError, end_out_of_memory, end_unread,
-    end_with, read_input,
+    CountedReader, CountedWriter, Device, ExitStatus, InputError, read_input, write_and_flush,
+    write_input_error, write_out_of_memory,
 };
 use hub_steps::read_step_line::read_step_line;
 use hub_steps::{Shown, StepLineError};
@@ -52,7 +52,7 @@ pub(crate) fn play_input<R: Read, W: Write, H: Wait>(
     match read_input(alloc, reader) {
         Ok(input) => play_text(rt, alloc, input.as_slice(), told, writer),
         Err(InputError::Device) => Ended::of(Err(Device)),
-        Err(InputError::OutOfMemory) => Ended::of(end_out_of_memory(writer)),
+        Err(InputError::OutOfMemory) => Ended::of(write_out_of_memory(writer)),
     }
 }
 
@@ -65,7 +65,7 @@ fn play_text<W: Write, H: Wait>(
 ) -> Ended {
     let mut player = Player::new(alloc, told.has_turns);
     match play_lines(rt, alloc, &mut player, input, &mut told) {
-        Ok(()) => Ended::of(end_with(writer, told.lines.as_slice(), ExitStatus::Success)),
+        Ok(()) => Ended::of(write_and_flush(writer, told.lines.as_slice(), ExitStatus::Success)),
         Err((number, stop)) => end_at(alloc, number, stop, &told, writer),
     }
 }
@@ -134,11 +134,11 @@ fn end_at<W: Write>(
     writer: &mut CountedWriter<W>,
 ) -> Ended {
     match stop {
-        Stop::Bad(error) => Ended::of(end_unread(alloc, writer, number, error.name())),
-        Stop::OutOfMemory => Ended::of(end_out_of_memory(writer)),
+        Stop::Bad(error) => Ended::of(write_input_error(alloc, writer, number, error.name())),
+        Stop::OutOfMemory => Ended::of(write_out_of_memory(writer)),
         _ => {
             let reason = stop.reason();
-            match end_with(writer, told.lines.as_slice(), ExitStatus::Success) {
+            match write_and_flush(writer, told.lines.as_slice(), ExitStatus::Success) {
                 Ok(_) => Ended {
                     status: NOT_PLAYED,
                     note: format!(in alloc; "line {number}: {reason}").ok(),

@@ -1,7 +1,7 @@
 //! What is printed of the lines that were played.
 
 use crate::player::Stop;
-use hub_steps::{Shown, write_shown};
+use hub_steps::{Shown, write_shown_outcome_line};
 use std::alloc::Global;
 
 /// The outcome lines so far, with the played lines above them where these are shown too.
@@ -28,7 +28,7 @@ impl Told {
     /// Adds an outcome line. Where there is no memory it adds nothing.
     fn add(&mut self, shown: &Shown) -> bool {
         self.text.clear();
-        write_shown(&mut self.text, shown).is_ok()
+        write_shown_outcome_line(&mut self.text, shown).is_ok()
             && self.lines.extend_from_slice(self.text.as_bytes()).is_ok()
     }
 

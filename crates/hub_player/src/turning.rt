@@ -96,7 +96,7 @@ impl Player {
         let Some(event_loop) = loop_of(&mut self.agents, agent) else {
             return Err(Stop::Unexpected);
         };
-        let Some(Held::Port(port)) = event_loop.held(end) else {
+        let Some(Held::Port(port)) = event_loop.held_end(end) else {
             return Err(Stop::Unexpected);
         };
         let shown = Shown::Answer(Outcome::Adopted(port.moves()));

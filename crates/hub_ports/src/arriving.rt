@@ -10,7 +10,7 @@ use crate::closing::{Noticed, Spent, close_port};
 use crate::flight::flight_key;
 use crate::hub::Hub;
 use crate::port::Port;
-use hub_depot::{Kept, take_in};
+use hub_depot::{Kept, take_from_lent_map};
 use hub_envelope::{EndId, OutOfMemory};
 use hub_locked::Lends;
 use hub_queue::{AdoptError, Bell, Grave};
@@ -89,7 +89,7 @@ pub struct Arrival {
 
 /// Takes the ports of these numbers out of flight, over a flight that anybody lends. After an error
 /// no port was taken.
-pub fn arrive_from<L: Lends<Kept<Port>>, R: Wait>(
+pub fn take_ports_from_flight<L: Lends<Kept<Port>>, R: Wait>(
     rt: &R,
     flight: &mut L,
     alloc: Global,
@@ -106,7 +106,7 @@ pub fn arrive_from<L: Lends<Kept<Port>>, R: Wait>(
     let mut found = Vec::with_capacity(alloc, numbers.len())?;
     let mut missing = Vec::with_capacity(alloc, numbers.len())?;
     for number in numbers {
-        match take_in(rt, flight, flight_key(*number)) {
+        match take_from_lent_map(rt, flight, flight_key(*number)) {
             Some(port) => found.push_reserved(Arrived { port }),
             None => missing.push_reserved(*number),
         }

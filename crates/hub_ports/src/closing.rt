@@ -59,10 +59,10 @@ impl Spent {
     ghost use Rattle.hub_queue.specs.Left.{unrung};
 
     /// What shows the line, in which a contract sees what the notice came to. It has no bytes.
-    pub fn into_left(self) -> LeftLine
+    pub fn into_line_witness(self) -> LeftLine
         ensures { result ≡ Some (unrung self) }
     {
-        self.poster.into_left()
+        self.poster.into_line_witness()
     }
 }
 
@@ -105,7 +105,7 @@ impl ClosedPort {
         ClosedPort {
             end,
             queue: None,
-            line: spent.into_left(),
+            line: spent.into_line_witness(),
             noticed,
         }
     }
@@ -132,7 +132,7 @@ impl Model for Closings {
 }
 
 /// No port: it holds the place of one.
-fn vacant() -> ClosedPort {
+fn placeholder_port() -> ClosedPort {
     ClosedPort {
         end: EndId(0),
         queue: None,
@@ -150,7 +150,7 @@ impl Closings {
         ensures { result ≡ [] }
     {
         Closings {
-            ports: array::from_fn(|_| vacant()),
+            ports: array::from_fn(|_| placeholder_port()),
             count: 0,
         }
     }
@@ -176,7 +176,7 @@ impl Closings {
 fn post_notice<R: Wait>(rt: &R, alloc: Global, yard: &Depot<Onward>, poster: &mut Poster) -> Noticed
     ensures { IsNoticed poster.old poster.new result }
 {
-    let Ok(draft) = Draft::notice(alloc) else {
+    let Ok(draft) = Draft::new_notice(alloc) else {
         return Noticed::OutOfMemory;
     };
     match poster.post(rt, yard, draft) {
@@ -188,7 +188,7 @@ fn post_notice<R: Wait>(rt: &R, alloc: Global, yard: &Depot<Onward>, poster: &mu
 }
 
 /// Posts the notice, and tells of it.
-fn put_notice<H: Hears<ClosingStep>, R: Wait>(
+fn post_notice_and_tell<H: Hears<ClosingStep>, R: Wait>(
     rt: &R,
     alloc: Global,
     yard: &Depot<Onward>,
@@ -205,7 +205,11 @@ fn put_notice<H: Hears<ClosingStep>, R: Wait>(
 }
 
 /// Closes the own end of a port, and tells of it.
-fn shut<H: Hears<ClosingStep>, R: Wait>(rt: &R, taker: Taker, heard: &mut H) -> Grave
+fn close_taker_and_tell<H: Hears<ClosingStep>, R: Wait>(
+    rt: &R,
+    taker: Taker,
+    heard: &mut H,
+) -> Grave
     ensures grave { IsClosed taker result }
     ensures told { H.told heard.new ≡ option_map (λ list.
         list ++ ClosingStep.Close (record { 0 = taker.end }) ∷ []) (H.told heard.old) }
@@ -231,8 +235,8 @@ pub fn close_and_tell<H: Hears<ClosingStep>, R: Wait>(
         ++ ClosingStep.Notice result.2 ∷ ClosingStep.Close (end_of port) ∷ []) (H.told heard.old) }
 {
     let (taker, mut poster) = port.into_parts();
-    let noticed = put_notice(rt, alloc, yard, &mut poster, heard);
-    let grave = shut(rt, taker, heard);
+    let noticed = post_notice_and_tell(rt, alloc, yard, &mut poster, heard);
+    let grave = close_taker_and_tell(rt, taker, heard);
     (grave, Spent { poster }, noticed)
 }
 
@@ -264,7 +268,7 @@ pub(crate) fn close_all<R: Wait>(
         let end = port.id();
         let (grave, spent, noticed) = close_port(rt, alloc, yard, port);
         let mut closed = ClosedPort::new(end, spent, noticed);
-        closed.queue = Some(grave.into_shut());
+        closed.queue = Some(grave.into_queue_witness());
         closings.push(closed);
     }
     closings

@@ -73,7 +73,7 @@ impl SendRefusal {
     ghost use Rattle.hub_ports.specs.Refusing.{error_with, refusal_of};
 
     /// The refusal of a line.
-    pub(crate) fn of_line(error: PostError) -> SendRefusal
+    pub(crate) fn from_post_error(error: PostError) -> SendRefusal
         ensures { result ≡ refusal_of error }
     {
         match error {

@@ -13,7 +13,7 @@ ghost use Rattle.hub_ports.specs.Closing.{AreToldEmptied};
 use crate::closing::{Noticed, Spent, close_port};
 use crate::error::SendRefusal;
 use crate::port::Port;
-use hub_depot::{Depot, DepotError, Kept, Key, put_in, take_in};
+use hub_depot::{Depot, DepotError, Kept, Key, put_into_lent_map, take_from_lent_map};
 use hub_envelope::{EndId, LineId};
 use hub_locked::{Hears, Lends};
 use hub_queue::{Grave, Onward, Swept};
@@ -33,7 +33,7 @@ pub(crate) fn flight_key(end: EndId) -> Key
 
 /// Puts the ports of a list in flight, from the last to the first, so that what is still in hand is
 /// always a beginning of the list. After an error the port that was refused is the last in hand.
-pub(crate) fn send_off<L: Lends<Kept<Port>>, R: Wait>(
+pub(crate) fn put_in_flight<L: Lends<Kept<Port>>, R: Wait>(
     rt: &R,
     flight: &mut L,
     ports: &mut Vec<Port>,
@@ -48,7 +48,7 @@ pub(crate) fn send_off<L: Lends<Kept<Port>>, R: Wait>(
         HaveFlownBehind kept ports.old.items ports.new.items (L.shown flight.new)) }
 {
     while let Some(port) = ports.pop() {
-        match put_in(rt, flight, port) {
+        match put_into_lent_map(rt, flight, port) {
             Ok(()) => {}
             Err(DepotError::Taken(port)) => {
                 ports.push_reserved(port);
@@ -65,7 +65,7 @@ pub(crate) fn send_off<L: Lends<Kept<Port>>, R: Wait>(
 
 /// Takes the ports of a list back from flight, in order. Those that it begins with are in hand
 /// still.
-pub(crate) fn call_back<L: Lends<Kept<Port>>, R: Wait>(
+pub(crate) fn take_back_from_flight<L: Lends<Kept<Port>>, R: Wait>(
     rt: &R,
     flight: &mut L,
     numbers: &[EndId],
@@ -86,7 +86,7 @@ pub(crate) fn call_back<L: Lends<Kept<Port>>, R: Wait>(
 {
     for index in ports.len()..numbers.len() {
         let number = numbers[index];
-        match take_in(rt, flight, flight_key(number)) {
+        match take_from_lent_map(rt, flight, flight_key(number)) {
             Some(port) => ports.push_reserved(port),
             None => missing.push_reserved(number),
         }
@@ -98,7 +98,7 @@ pub(crate) fn call_back<L: Lends<Kept<Port>>, R: Wait>(
 /// they are in flight. It tells of each end what is left of it.
 ///
 /// Where memory runs out, the end that was closed last comes back.
-pub fn close_flight<H: Hears<(Swept, Option<(Spent, Noticed)>)>, R: Wait>(
+pub fn close_all_ports_in_flight<H: Hears<(Swept, Option<(Spent, Noticed)>)>, R: Wait>(
     rt: &R,
     alloc: Global,
     yard: &Depot<Onward>,
@@ -111,12 +111,12 @@ pub fn close_flight<H: Hears<(Swept, Option<(Spent, Noticed)>)>, R: Wait>(
         AreToldEmptied grave flight.old map.empty before (H.told heard.new))) }
 {
     match grave {
-        Some(grave) => heard.tell(rt, (grave.sweep_out(rt)?, None)),
+        Some(grave) => heard.tell(rt, (grave.sweep_until_empty(rt)?, None)),
         None => {}
     }
     while let Some(port) = flight.take_any() {
         let (grave, spent, noticed) = close_port(rt, alloc, yard, port);
-        heard.tell(rt, (grave.sweep_out(rt)?, Some((spent, noticed))));
+        heard.tell(rt, (grave.sweep_until_empty(rt)?, Some((spent, noticed))));
     }
     Ok(())
 }

@@ -5,9 +5,9 @@ ghost use Rattle.hub_envelope.specs.declared.limits.TheConstants.{MAX_ENDS};
 ghost use Rattle.hub_queue.specs.Mailboxes.{IsOpenMailbox};
 ghost use Rattle.hub_ports.specs.Channels.{IsChannel};
 
-use crate::arriving::{Arrival, arrive_from};
+use crate::arriving::{Arrival, take_ports_from_flight};
 use crate::error::ChannelError;
-use crate::flight::close_flight;
+use crate::flight::close_all_ports_in_flight;
 use crate::port::Port;
 use hub_depot::Depot;
 use hub_envelope::{EndId, Envelope, OutOfMemory};
@@ -63,7 +63,7 @@ impl Hub {
             IsSplit envelope.now.ports (ends_of arrival.found.items) arrival.missing.items) }
     {
         let mut flight = self.flight.as_locked();
-        arrive_from(rt, &mut flight, self.alloc, envelope.ports.as_slice())
+        take_ports_from_flight(rt, &mut flight, self.alloc, envelope.ports.as_slice())
     }
 
     /// Ends the hub: closes every port that is in flight, each with its notice, and discards what
@@ -80,7 +80,7 @@ impl Hub {
         } = self;
         let mut kept = flight.into_kept();
         let grave = grave.into_inner();
-        let ended = close_flight(rt, alloc, &yard, grave, &mut kept, &mut Unheard);
+        let ended = close_all_ports_in_flight(rt, alloc, &yard, grave, &mut kept, &mut Unheard);
         let Err(grave) = ended else {
             return Ok(());
         };
@@ -95,7 +95,11 @@ impl Hub {
 }
 
 /// A mailbox with one line.
-fn open_line(alloc: Global, end: EndId, bell: Bell) -> Result<(Taker, Poster), OutOfMemory>
+fn open_one_line_mailbox(
+    alloc: Global,
+    end: EndId,
+    bell: Bell,
+) -> Result<(Taker, Poster), OutOfMemory>
     ensures { IfOk result (λ m. IsOpenMailbox end 1 m.0 (m.1 ∷ [])) }
 {
     let (taker, mut posters) = Mailbox::open(alloc, end, 1, bell)?;
@@ -113,8 +117,8 @@ fn entangled(
     ensures { IfOk result (λ ports. IsChannel first second ports.0 ports.1) }
 {
     let again = bell.clone()?;
-    let (first_taker, first_poster) = open_line(alloc, first, bell)?;
-    let (second_taker, second_poster) = open_line(alloc, second, again)?;
+    let (first_taker, first_poster) = open_one_line_mailbox(alloc, first, bell)?;
+    let (second_taker, second_poster) = open_one_line_mailbox(alloc, second, again)?;
     let first = Port {
         taker: first_taker,
         poster: second_poster,

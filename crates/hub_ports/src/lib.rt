@@ -18,10 +18,10 @@ mod parcel;
 mod port;
 mod sending;
 
-pub use arriving::{Arrival, Arrived, arrive_from};
+pub use arriving::{Arrival, Arrived, take_ports_from_flight};
 pub use closing::{ClosedPort, ClosingStep, Closings, Noticed, Spent, close_and_tell};
 pub use error::{ChannelError, PortError, SendRefusal};
-pub use flight::close_flight;
+pub use flight::close_all_ports_in_flight;
 pub use hub::{Hub, channel};
 pub use parcel::Parcel;
 pub use port::Port;

@@ -11,7 +11,7 @@ ghost use Rattle.hub_ports.specs.declared.closing.ClosedPort.{ClosedPort};
 
 use crate::closing::{Closings, close_all};
 use crate::error::{PortError, SendRefusal};
-use crate::flight::{call_back, send_off};
+use crate::flight::{put_in_flight, take_back_from_flight};
 use crate::hub::Hub;
 use crate::parcel::Parcel;
 use crate::port::Port;
@@ -42,7 +42,7 @@ fn numbers_of(alloc: Global, ports: &[Port]) -> Result<Vec<EndId>, OutOfMemory>
 }
 
 /// The refusal that is told, once the ports were called back.
-fn refused(refusal: SendRefusal, missing: &[EndId]) -> SendRefusal
+fn refusal_or_strayed(refusal: SendRefusal, missing: &[EndId]) -> SendRefusal
     ensures whole { missing.now ≡ [] → result ≡ refusal }
     ensures strayed { 0 < length missing.now → result ≡ SendRefusal.Strayed }
 {
@@ -55,7 +55,7 @@ fn refused(refusal: SendRefusal, missing: &[EndId]) -> SendRefusal
 
 /// Posts a parcel without ports.
 #[inline(always)]
-fn send_alone<R: Wait>(
+fn send_without_ports<R: Wait>(
     line: &mut Poster,
     rt: &R,
     hub: &Hub,
@@ -78,7 +78,7 @@ fn send_alone<R: Wait>(
     let mut none = Some(Ports::none(hub.alloc));
     match line.post_lent(rt, &hub.yard, head, &mut parcel.body, &mut none) {
         Ok(posted) => Ok(posted),
-        Err(error) => Err(SendRefusal::of_line(error)),
+        Err(error) => Err(SendRefusal::from_post_error(error)),
     }
 }
 
@@ -115,9 +115,9 @@ fn post_with_ports<L: Lends<Kept<Port>>, R: Wait>(
         return Err(SendRefusal::OutOfMemory);
     };
     *missing = room;
-    if let Err(refusal) = send_off(rt, flight, ports) {
-        call_back(rt, flight, numbers.as_slice(), ports, missing);
-        return Err(refused(refusal, missing.as_slice()));
+    if let Err(refusal) = put_in_flight(rt, flight, ports) {
+        take_back_from_flight(rt, flight, numbers.as_slice(), ports, missing);
+        return Err(refusal_or_strayed(refusal, missing.as_slice()));
     }
     let Ok(listed) = Ports::of_list(numbers) else {
         unreachable!();
@@ -131,8 +131,8 @@ fn post_with_ports<L: Lends<Kept<Port>>, R: Wait>(
         Ok(posted) => Ok(posted),
         Err(error) => {
             let listed = listed.unwrap();
-            call_back(rt, flight, listed.as_slice(), ports, missing);
-            Err(refused(SendRefusal::of_line(error), missing.as_slice()))
+            take_back_from_flight(rt, flight, listed.as_slice(), ports, missing);
+            Err(refusal_or_strayed(SendRefusal::from_post_error(error), missing.as_slice()))
         }
     }
 }
@@ -198,7 +198,7 @@ pub fn send_parcel<R: Wait>(
         × Contains (ends_of parcel.old.ports.items) line.old.name.end) }
 {
     if parcel.ports.is_empty() {
-        return send_alone(line, rt, hub, agent, parcel);
+        return send_without_ports(line, rt, hub, agent, parcel);
     }
     let mut flight = hub.flight.as_locked();
     send_with_ports(rt, hub, &mut flight, line, agent, parcel, closings)
@@ -206,7 +206,7 @@ pub fn send_parcel<R: Wait>(
 
 /// Posts a parcel with ports whose caller has lent no list of closings.
 #[inline(never)]
-fn send_list<R: Wait>(
+fn send_with_own_closings<R: Wait>(
     line: &mut Poster,
     rt: &R,
     hub: &Hub,
@@ -229,7 +229,7 @@ fn send_list<R: Wait>(
 /// The answer to a parcel without ports that its line refused.
 #[cold]
 #[inline(never)]
-fn turned_back(refusal: SendRefusal, parcel: Parcel) -> Result<Posted, PortError>
+fn error_without_closings(refusal: SendRefusal, parcel: Parcel) -> Result<Posted, PortError>
     requires { IsSome parcel.body }
     ensures { result ≡ Err (error_with refusal parcel []) }
 {
@@ -257,10 +257,10 @@ pub fn send<R: Wait>(
 {
     let mut parcel = Parcel::new(hub.alloc, body, transfer);
     if !parcel.ports.is_empty() {
-        return send_list(line, rt, hub, agent, parcel);
+        return send_with_own_closings(line, rt, hub, agent, parcel);
     }
-    match send_alone(line, rt, hub, agent, &mut parcel) {
+    match send_without_ports(line, rt, hub, agent, &mut parcel) {
         Ok(posted) => Ok(posted),
-        Err(refusal) => turned_back(refusal, parcel),
+        Err(refusal) => error_without_closings(refusal, parcel),
     }
 }

@@ -32,7 +32,7 @@ pub extern "C" fn varukoni_fan_open(alloc: Global, handle: &mut Handle) -> u8
     let Ok(resource) = Box::new(alloc, Resource::Fan(fan)) else {
         return NO_MEMORY;
     };
-    *handle = Handle::open(resource);
+    *handle = Handle::new_open(resource);
     DONE
 }
 
@@ -62,9 +62,9 @@ pub extern "C" fn varukoni_fan_line(
     };
     let mut resource = handle.take(alloc);
     let status = resource.open_line(&mut opened, line);
-    *handle = Handle::open(resource);
+    *handle = Handle::new_open(resource);
     if status == DONE {
-        *poster = Handle::open(opened);
+        *poster = Handle::new_open(opened);
     }
     status
 }
@@ -81,7 +81,7 @@ pub extern "C" fn varukoni_fan_start(alloc: Global, handle: &mut Handle) -> u8
     }
     let mut resource = handle.take(alloc);
     let status = resource.start_fan();
-    *handle = Handle::open(resource);
+    *handle = Handle::new_open(resource);
     status
 }
 
@@ -108,8 +108,8 @@ pub extern "C" fn varukoni_fan_take(
         return WRONG_STATE;
     }
     let mut resource = handle.take(alloc);
-    let status = resource.take_of(message, line);
-    *handle = Handle::open(resource);
+    let status = resource.take_from_fan(message, line);
+    *handle = Handle::new_open(resource);
     status
 }
 
@@ -132,7 +132,7 @@ pub extern "C" fn varukoni_fan_arm(
     }
     let mut resource = handle.take(alloc);
     let status = resource.arm_fan(token, old);
-    *handle = Handle::open(resource);
+    *handle = Handle::new_open(resource);
     status
 }
 
@@ -148,7 +148,7 @@ pub extern "C" fn varukoni_fan_close(alloc: Global, handle: &mut Handle, own: &m
     }
     let mut resource = handle.take(alloc);
     let status = resource.close_fan(own);
-    *handle = Handle::open(resource);
+    *handle = Handle::new_open(resource);
     status
 }
 
@@ -172,8 +172,8 @@ pub extern "C" fn varukoni_fan_drain(
         return WRONG_STATE;
     }
     let mut resource = handle.take(alloc);
-    let status = resource.drain_fan(message, line);
-    *handle = Handle::open(resource);
+    let status = resource.take_fan_leftover(message, line);
+    *handle = Handle::new_open(resource);
     status
 }
 

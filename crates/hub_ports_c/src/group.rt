@@ -25,7 +25,7 @@ pub extern "C" fn varukoni_group_open(alloc: Global, handle: &mut Handle) -> u8
     let Ok(resource) = Box::new(alloc, Resource::Group(CastGroup::new(alloc))) else {
         return NO_MEMORY;
     };
-    *handle = Handle::open(resource);
+    *handle = Handle::new_open(resource);
     DONE
 }
 
@@ -52,9 +52,9 @@ pub extern "C" fn varukoni_group_join(
     let mut resource = handle.take(alloc);
     let mut joining = poster.take(alloc);
     let status = resource.join(&mut joining, member);
-    *handle = Handle::open(resource);
+    *handle = Handle::new_open(resource);
     if status != DONE {
-        *poster = Handle::open(joining);
+        *poster = Handle::new_open(joining);
     }
     status
 }
@@ -72,8 +72,8 @@ pub extern "C" fn varukoni_group_count(alloc: Global, handle: &mut Handle, count
         return WRONG_STATE;
     }
     let resource = handle.take(alloc);
-    let status = resource.count(count);
-    *handle = Handle::open(resource);
+    let status = resource.member_count(count);
+    *handle = Handle::new_open(resource);
     status
 }
 
@@ -99,7 +99,7 @@ pub extern "C" fn varukoni_group_cast(
     }
     let mut resource = handle.take(alloc);
     let status = resource.cast(source, message, answers);
-    *handle = Handle::open(resource);
+    *handle = Handle::new_open(resource);
     status
 }
 
@@ -121,8 +121,8 @@ pub extern "C" fn varukoni_group_leave(
         return WRONG_STATE;
     }
     let mut resource = handle.take(alloc);
-    let status = resource.leave(member, wake);
-    *handle = Handle::open(resource);
+    let status = resource.remove_member(member, wake);
+    *handle = Handle::new_open(resource);
     status
 }
 

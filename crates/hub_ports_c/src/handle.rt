@@ -36,7 +36,7 @@ impl Handle {
         }
     }
 
-    pub(crate) fn open(resource: Box<Resource>) -> Handle
+    pub(crate) fn new_open(resource: Box<Resource>) -> Handle
         ensures { result.slot.held ≡ Some resource.value }
     {
         Handle {

@@ -38,8 +38,8 @@ pub extern "C" fn varukoni_channel_open(
     let Ok(other) = Box::new(alloc, Resource::Port(other)) else {
         return NO_MEMORY;
     };
-    *left = Handle::open(one);
-    *right = Handle::open(other);
+    *left = Handle::new_open(one);
+    *right = Handle::new_open(other);
     DONE
 }
 
@@ -63,7 +63,7 @@ pub extern "C" fn varukoni_port_post(
     }
     let mut resource = handle.take(alloc);
     let status = resource.post(message, wake);
-    *handle = Handle::open(resource);
+    *handle = Handle::new_open(resource);
     status
 }
 
@@ -88,7 +88,7 @@ pub extern "C" fn varukoni_port_take(
     }
     let mut resource = handle.take(alloc);
     let status = resource.take(message);
-    *handle = Handle::open(resource);
+    *handle = Handle::new_open(resource);
     status
 }
 
@@ -104,7 +104,7 @@ pub extern "C" fn varukoni_port_start(alloc: Global, handle: &mut Handle) -> u8
     }
     let mut resource = handle.take(alloc);
     let status = resource.start();
-    *handle = Handle::open(resource);
+    *handle = Handle::new_open(resource);
     status
 }
 
@@ -127,7 +127,7 @@ pub extern "C" fn varukoni_port_arm(
     }
     let mut resource = handle.take(alloc);
     let status = resource.arm(token, old);
-    *handle = Handle::open(resource);
+    *handle = Handle::new_open(resource);
     status
 }
 
@@ -150,7 +150,7 @@ pub extern "C" fn varukoni_port_adopt(
     }
     let mut resource = handle.take(alloc);
     let status = resource.adopt(token, old);
-    *handle = Handle::open(resource);
+    *handle = Handle::new_open(resource);
     status
 }
 
@@ -173,7 +173,7 @@ pub extern "C" fn varukoni_port_close(
     }
     let mut resource = handle.take(alloc);
     let status = resource.close(own, peer);
-    *handle = Handle::open(resource);
+    *handle = Handle::new_open(resource);
     status
 }
 
@@ -195,8 +195,8 @@ pub extern "C" fn varukoni_port_drain(
         return WRONG_STATE;
     }
     let mut resource = handle.take(alloc);
-    let status = resource.drain(message);
-    *handle = Handle::open(resource);
+    let status = resource.take_leftover(message);
+    *handle = Handle::new_open(resource);
     status
 }
 
@@ -212,8 +212,8 @@ pub extern "C" fn varukoni_port_name(alloc: Global, handle: &mut Handle, name: &
         return WRONG_STATE;
     }
     let resource = handle.take(alloc);
-    let status = resource.name(name);
-    *handle = Handle::open(resource);
+    let status = resource.channel_name(name);
+    *handle = Handle::new_open(resource);
     status
 }
 

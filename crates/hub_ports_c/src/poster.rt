@@ -29,8 +29,8 @@ pub extern "C" fn varukoni_poster_post(
         return WRONG_STATE;
     }
     let mut resource = handle.take(alloc);
-    let status = resource.post_over(message, wake);
-    *handle = Handle::open(resource);
+    let status = resource.post_to_fan(message, wake);
+    *handle = Handle::new_open(resource);
     status
 }
 
@@ -47,7 +47,7 @@ pub extern "C" fn varukoni_poster_close(alloc: Global, handle: &mut Handle, wake
     let mut resource = handle.take(alloc);
     let status = resource.close_poster(wake);
     if status == WRONG_STATE {
-        *handle = Handle::open(resource);
+        *handle = Handle::new_open(resource);
     }
     status
 }

@@ -34,7 +34,7 @@ pub enum Resource {
 
 /// What comes of a look that an armed port or fan was given: its old token, and whether something
 /// waits.
-pub(crate) fn looked(armed: Armed, old: &mut u64) -> u8
+pub(crate) fn status_of_armed(armed: Armed, old: &mut u64) -> u8
     ensures waits { result ≡ 0 → armed.waits ≡ true }
     ensures none { result ≡ 1 → armed.waits ≡ false }
     ensures token { old.new ≡ armed.token }
@@ -127,7 +127,7 @@ impl Resource {
         let Resource::Port(port) = self else {
             return WRONG_STATE;
         };
-        looked(port.arm(token), old)
+        status_of_armed(port.arm(token), old)
     }
 
     /// Makes a port that of another owner, disabled, and looks into it then.
@@ -142,11 +142,11 @@ impl Resource {
         let Resource::Port(port) = self else {
             return WRONG_STATE;
         };
-        looked(port.adopt(token), old)
+        status_of_armed(port.adopt(token), old)
     }
 
     /// The name of a port's channel.
-    pub(crate) fn name(&self, name: &mut u64) -> u8
+    pub(crate) fn channel_name(&self, name: &mut u64) -> u8
         ensures named { result ≡ 0 → HasName name.new self.now }
         ensures other { result ≡ 5 → (is_open_port self.now ≡ false) × (name.new ≡ name.old) }
         ensures statuses { (result ≡ 0) ⊎ (result ≡ 5) }
@@ -181,7 +181,7 @@ impl Resource {
     }
 
     /// Hands back a message that was posted at a closed port.
-    pub(crate) fn drain(&mut self, message: &mut Message) -> u8
+    pub(crate) fn take_leftover(&mut self, message: &mut Message) -> u8
         ensures handed { result ≡ 0 → AtGrave (HandsBack message.new) self.old self.new }
         ensures empty { result ≡ 1 → AtGrave HandsBackNone self.old self.new }
         ensures ended { result ≡ 2 → AtGrave HandsBackLast self.old self.new }
@@ -192,7 +192,7 @@ impl Resource {
         let Resource::Grave(grave) = self else {
             return WRONG_STATE;
         };
-        match grave.drain() {
+        match grave.take_leftover() {
             LineTaken::Item(taken) => {
                 *message = taken;
                 DONE

@@ -1,7 +1,7 @@
 //! What is done with the fan or the poster that a handle holds.
 ghost use Rattle.std.specs.Prelude.{◌≡◌, ◌⊎◌, false};
 
-use crate::resource::{Message, Resource, looked};
+use crate::resource::{Message, Resource, status_of_armed};
 use crate::status::{CLOSED, DISABLED, DONE, EMPTY, ENDED, FULL, NO_MEMORY, WRONG_STATE};
 use hub_fan::{ClosedFan, FanDrained, FanTaken, NotOpened, NotPosted};
 use std::mem;
@@ -43,7 +43,7 @@ impl Resource {
 
     /// Posts a message over a line of a fan.
     #[inline(always)]
-    pub(crate) fn post_over(&mut self, message: &Message, wake: &mut u64) -> u8
+    pub(crate) fn post_to_fan(&mut self, message: &Message, wake: &mut u64) -> u8
         ensures posted { result ≡ 0 → AtPoster (PostsToFan message.now) self.old self.new }
         ensures no_memory { result ≡ 3 → AtPoster PostsNone self.old self.new }
         ensures closed { result ≡ 6 → AtPoster RefusesOver self.old self.new }
@@ -98,7 +98,7 @@ impl Resource {
 
     /// Takes the next message of a fan.
     #[inline(always)]
-    pub(crate) fn take_of(&mut self, message: &mut Message, line: &mut u32) -> u8
+    pub(crate) fn take_from_fan(&mut self, message: &mut Message, line: &mut u32) -> u8
         ensures took { result ≡ 0 →
             AtFan (TakesOf (taken.Message line.new message.new)) self.old self.new }
         ensures empty { result ≡ 1 → AtFan (TakesOf taken.Empty) self.old self.new }
@@ -140,7 +140,7 @@ impl Resource {
         let Resource::Fan(fan) = self else {
             return WRONG_STATE;
         };
-        looked(fan.arm(token), old)
+        status_of_armed(fan.arm(token), old)
     }
 
     /// Closes a fan, which leaves its grave.
@@ -165,7 +165,7 @@ impl Resource {
     }
 
     /// Hands back a message that was posted at a closed fan.
-    pub(crate) fn drain_fan(&mut self, message: &mut Message, line: &mut u32) -> u8
+    pub(crate) fn take_fan_leftover(&mut self, message: &mut Message, line: &mut u32) -> u8
         ensures handed { result ≡ 0 →
             AtFanGrave (DrainsOf (drained.Message line.new message.new)) self.old self.new }
         ensures empty { result ≡ 1 → AtFanGrave (DrainsOf drained.Empty) self.old self.new }
@@ -177,7 +177,7 @@ impl Resource {
         let Resource::FanGrave(grave) = self else {
             return WRONG_STATE;
         };
-        match grave.drain() {
+        match grave.take_leftover() {
             FanDrained::Message(number, handed) => {
                 *line = number as u32;
                 *message = handed;

@@ -45,7 +45,7 @@ impl Resource {
     }
 
     /// How many members a group has.
-    pub(crate) fn count(&self, count: &mut usize) -> u8
+    pub(crate) fn member_count(&self, count: &mut usize) -> u8
         ensures counted { result ≡ 0 → Counts count.new self.now }
         ensures other { result ≡ 5 → (is_group self.now ≡ false) × (count.new ≡ count.old) }
         ensures statuses { (result ≡ 0) ⊎ (result ≡ 5) }
@@ -77,7 +77,7 @@ impl Resource {
     }
 
     /// Takes a member out of a group.
-    pub(crate) fn leave(&mut self, member: u64, wake: &mut u64) -> u8
+    pub(crate) fn remove_member(&mut self, member: u64, wake: &mut u64) -> u8
         ensures left { result ≡ 0 → AtGroup (LeavesGroup member) self.old self.new }
         ensures none { result ≡ 1 → AtGroup (HasNoMember member) self.old self.new }
         ensures other { result ≡ 5 → (is_group self.old ≡ false) × (self.new ≡ self.old) }
@@ -87,7 +87,7 @@ impl Resource {
         let Resource::Group(group) = self else {
             return WRONG_STATE;
         };
-        match group.leave(member) {
+        match group.remove_member(member) {
             Some(token) => {
                 *wake = token;
                 DONE

@@ -15,7 +15,7 @@ use crate::onward::Onward;
 use crate::stand::Stand;
 use crate::taker_queue::TakerQueue;
 use hub_bell::Bell;
-use hub_depot::{DepotError, Kept, Key, Named, put_all};
+use hub_depot::{DepotError, Kept, Key, Named, put_all_or_none};
 use hub_envelope::{EndId, LineId, OutOfMemory};
 use hub_gate::Entry;
 use hub_locked::Lends;
@@ -23,7 +23,7 @@ use std::alloc::Global;
 use std::sync::Wait;
 
 /// An onward poster for each entry of a new queue, in order.
-pub(crate) fn onwards_at(
+pub(crate) fn make_onward_posters(
     alloc: Global,
     queue: &TakerQueue,
     mut entries: Vec<Entry<LineRight>>,
@@ -62,7 +62,7 @@ pub(crate) fn onwards_at(
 
 /// A new queue of the end, whose onward posters lie in the yard. After an error nothing is left of
 /// it, and the yard keeps what it kept.
-pub(crate) fn open_next<L: Lends<Kept<Onward>>, R: Wait>(
+pub(crate) fn open_next_queue<L: Lends<Kept<Onward>>, R: Wait>(
     rt: &R,
     yard: &mut L,
     alloc: Global,
@@ -87,10 +87,10 @@ pub(crate) fn open_next<L: Lends<Kept<Onward>>, R: Wait>(
     let Ok((queue, entries)) = open_taker_queue(alloc, end, epoch, lines) else {
         return Err(AdoptError::OutOfMemory);
     };
-    let Ok(onwards) = onwards_at(alloc, &queue, entries, end, epoch, bell) else {
+    let Ok(onwards) = make_onward_posters(alloc, &queue, entries, end, epoch, bell) else {
         return Err(AdoptError::OutOfMemory);
     };
-    match put_all(rt, yard, alloc, onwards) {
+    match put_all_or_none(rt, yard, alloc, onwards) {
         Ok(()) => Ok(queue),
         Err(DepotError::Taken(_)) => Err(AdoptError::Taken),
         Err(DepotError::OutOfMemory(_)) => Err(AdoptError::OutOfMemory),

@@ -5,7 +5,7 @@ ghost use Rattle.hub_queue.specs.TakerQueues.{IsShut};
 ghost use Rattle.hub_queue.specs.Sweeping.{AreSwept};
 
 use crate::left::ShutQueue;
-use crate::settling::{Stop, empty};
+use crate::settling::{Stop, empty_queue};
 use crate::swept::Swept;
 use crate::taker_queue::TakerQueue;
 use hub_envelope::{EndId, Envelope};
@@ -69,7 +69,7 @@ pub enum Sweep {
 }
 
 /// Empties each of the queues, the oldest first, and stops at the first that can't be emptied.
-fn empty_all<R: Wait>(
+fn empty_all_queues<R: Wait>(
     rt: &R,
     retired: &mut VecDeque<TakerQueue>,
     newest: &mut TakerQueue,
@@ -84,9 +84,9 @@ fn empty_all<R: Wait>(
         let Some(queue) = retired.get_mut(index) else {
             unreachable!();
         };
-        empty(rt, queue, envelopes)?;
+        empty_queue(rt, queue, envelopes)?;
     }
-    empty(rt, newest, envelopes)
+    empty_queue(rt, newest, envelopes)
 }
 
 impl Grave {
@@ -102,7 +102,7 @@ impl Grave {
 
     /// What shows the newest queue. It is freed with those before it, and what they hold is
     /// discarded.
-    pub fn into_shut(self) -> ShutQueue
+    pub fn into_queue_witness(self) -> ShutQueue
         ensures { IsNewestOf self result }
     {
         let Grave {
@@ -112,7 +112,7 @@ impl Grave {
             newest,
             envelopes: _,
         } = self;
-        newest.into_shut()
+        newest.into_queue_witness()
     }
 
     /// Discards what is left at the closed end, queue after queue, the oldest first. At each it
@@ -132,7 +132,7 @@ impl Grave {
             mut newest,
             mut envelopes,
         } = self;
-        let stop = empty_all(rt, &mut retired, &mut newest, &mut envelopes);
+        let stop = empty_all_queues(rt, &mut retired, &mut newest, &mut envelopes);
         match stop {
             Ok(()) => Sweep::Discarded(Swept {
                 end,
@@ -162,7 +162,7 @@ impl Grave {
     ///
     /// Once all is swept, what was taken and discarded of all its queues, joined, is line by line
     /// all that was put in them.
-    pub fn sweep_out<R: Wait>(self, rt: &R) -> Result<Swept, Grave>
+    pub fn sweep_until_empty<R: Wait>(self, rt: &R) -> Result<Swept, Grave>
         ensures ok { IfOk result (IsSweptOut self) }
         ensures chain { IfOk result (λ s. IsWholeChain s.queues) }
         ensures err { IfErr result (IsSweptSoFar self) }

@@ -57,7 +57,7 @@ impl LeftGates {
     }
 
     /// The line has left one gate more. Of as many as a post may leave each is kept.
-    pub(crate) fn with(self, entry: Entry<LineRight>) -> LeftGates
+    pub(crate) fn add_left_gate(self, entry: Entry<LineRight>) -> LeftGates
         ensures { result ≡ Some entry ∷ take 3 self }
     {
         let LeftGates {
@@ -116,7 +116,7 @@ impl LeftLine {
 impl Poster {
     /// What shows the line, over which nobody posts from then on. What its bell has done isn't
     /// shown.
-    pub fn into_left(self) -> LeftLine
+    pub fn into_line_witness(self) -> LeftLine
         ensures { result ≡ Some (unrung self) }
     {
         let Poster { stand } = self;

@@ -11,7 +11,7 @@ ghost use Rattle.hub_queue.specs.PassSteps.{cut_more, next_put};
 ghost use Rattle.hub_queue.specs.Seats.{known_by, take_in};
 ghost use Rattle.hub_queue.specs.SharedQueue.{first_view};
 
-use crate::adopting::onwards_at;
+use crate::adopting::make_onward_posters;
 use crate::line_right::LineRight;
 use crate::onward::Onward;
 use crate::poster::Poster;
@@ -77,7 +77,7 @@ impl Ends {
 pub struct Mailbox;
 
 /// The posters of all lines, which nobody has used.
-fn posters_of(alloc: Global, onwards: Vec<Onward>) -> Result<Vec<Poster>, OutOfMemory>
+fn posters_from_onwards(alloc: Global, onwards: Vec<Onward>) -> Result<Vec<Poster>, OutOfMemory>
     ensures { IfOk result (λ posters. posters.items ≡ onwards.items) }
 {
     let mut posters = Vec::with_capacity(alloc, onwards.len())?;
@@ -102,8 +102,8 @@ impl Mailbox {
         ensures { IfOk result (λ m. IsOpenMailbox end lines m.0 m.1.items) }
     {
         let (newest, entries) = open_taker_queue(alloc, end, 0, lines)?;
-        let onwards = onwards_at(alloc, &newest, entries, end, 0, &bell)?;
-        let posters = posters_of(alloc, onwards)?;
+        let onwards = make_onward_posters(alloc, &newest, entries, end, 0, &bell)?;
+        let posters = posters_from_onwards(alloc, onwards)?;
         let taker = Taker {
             alloc,
             end,
@@ -118,7 +118,7 @@ impl Mailbox {
 }
 
 /// Cuts the pass of the next line off the taker's. The first cut gives the queue its end and epoch.
-fn cut_line<N: QueueName>(store: &Store, pass: &mut Pass, end: EndId, epoch: u32) -> Pass
+fn split_off_line_pass<N: QueueName>(store: &Store, pass: &mut Pass, end: EndId, epoch: u32) -> Pass
     requires name { (end.0 ≡ N.end) × (epoch ≡ N.epoch) }
     requires queue { IsSegPassOf store.now.queue pass.old }
     requires taker { known_by pass.old ≡ Takes (take_in (known_by pass.old)) }
@@ -131,7 +131,7 @@ fn cut_line<N: QueueName>(store: &Store, pass: &mut Pass, end: EndId, epoch: u32
 }
 
 /// The rights of so many lines, each of which has put nothing.
-fn cut_lines(
+fn make_line_rights(
     alloc: Global,
     store: &Arc<Store>,
     pass: &mut Pass,
@@ -149,7 +149,7 @@ fn cut_lines(
     let mut rights = Vec::with_capacity(alloc, lines as usize)?;
     for _line in 0..lines {
         let share = Arc::try_clone(store)?;
-        let own = cut_line::<Brand>(store, pass, end, epoch);
+        let own = split_off_line_pass::<Brand>(store, pass, end, epoch);
         rights.push(LineRight {
             store: share,
             pass: own,
@@ -172,7 +172,7 @@ pub(crate) fn open_taker_queue(
 {
     let (queue, mut pass) = EnvelopeQueue::with_rule(alloc)?;
     let store = Arc::new(alloc, Store { queue })?;
-    let rights = cut_lines(alloc, &store, &mut pass, end, epoch, lines)?;
+    let rights = make_line_rights(alloc, &store, &mut pass, end, epoch, lines)?;
     let Ok((keeper, entries)) = Gate::open(alloc, rights) else {
         return Err(OutOfMemory);
     };

@@ -51,7 +51,7 @@ fn count_put_and_taken<R: Wait>(
 }
 
 /// Goes in at the gate, compares, and comes out again.
-fn meet_at<R: Wait>(rt: &R, stand: &mut Stand, queue: &mut TakerQueue) -> Meeting
+fn enter_and_compare<R: Wait>(rt: &R, stand: &mut Stand, queue: &mut TakerQueue) -> Meeting
     requires { (right_of stand.old).queue ≡ queue.old.queue }
     ensures same { queue.new ≡ queue.old }
     ensures met { HaveMetAt stand.old stand.new queue.old result }
@@ -85,7 +85,7 @@ pub fn meet<R: Wait>(rt: &R, poster: &mut Poster, taker: &mut Taker) -> Meeting
         return Meeting::Strangers;
     }
     match taker.retired.front_mut() {
-        Some(queue) => meet_at(rt, stand, queue),
-        None => meet_at(rt, stand, &mut taker.newest),
+        Some(queue) => enter_and_compare(rt, stand, queue),
+        None => enter_and_compare(rt, stand, &mut taker.newest),
     }
 }

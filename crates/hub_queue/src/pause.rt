@@ -71,7 +71,7 @@ impl<L: Ledger> Model for Steps<L> {
 
 impl<L: Ledger> Steps<L> {
     /// A count that begins at none. The ledger has two parts, one for each number.
-    pub fn begin(blank: Blank) -> Steps<L>
+    pub fn new_at_zero(blank: Blank) -> Steps<L>
         requires name { blank.name ≡ L.name }
         requires parts { (blank.parts ≡ L.parts) × (L.parts ≡ 2) }
         ensures { result ≡ record { pops = 0; none = 0 } }
@@ -82,7 +82,7 @@ impl<L: Ledger> Steps<L> {
     }
 
     /// Counts one pop. It is called where a pop is made, and nowhere else.
-    pub(crate) fn tick(&mut self, found_none: bool)
+    pub(crate) fn count_pop(&mut self, found_none: bool)
         ensures { self.new ≡ pop_counted self.old found_none }
     {
         self.book.add(&mut self.pops, 1);

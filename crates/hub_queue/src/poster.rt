@@ -78,7 +78,7 @@ impl Poster {
         } = draft;
         let head = Head { agent, notice };
         let (mut body, mut ports) = (Some(body), Some(ports));
-        match self.post_on(rt, &mut lender, head, &mut body, &mut ports, &mut heard) {
+        match self.post_with_lent_yard(rt, &mut lender, head, &mut body, &mut ports, &mut heard) {
             Ok(posted) => Ok(posted),
             Err(error) => Err((
                 error,
@@ -111,7 +111,7 @@ impl Poster {
             (answer_back result (lent_draft head body.old ports.old)) }
     {
         let (mut lender, mut heard) = (yard.as_locked(), Paused(&NoPause));
-        self.post_on(rt, &mut lender, head, body, ports, &mut heard)
+        self.post_with_lent_yard(rt, &mut lender, head, body, ports, &mut heard)
     }
 
     /// `post_lent`, over a yard that anybody lends, and told to anybody.
@@ -120,7 +120,7 @@ impl Poster {
     /// it goes on to, and no other. `Moving` comes after `MAX_HOPS` of them, or where the yard has
     /// no stand for the next queue.
     #[inline(always)]
-    pub fn post_on<L: Lends<Kept<Onward>>, H: Hears<Point>, R: Wait>(
+    pub fn post_with_lent_yard<L: Lends<Kept<Onward>>, H: Hears<Point>, R: Wait>(
         &mut self,
         rt: &R,
         yard: &mut L,
@@ -142,11 +142,14 @@ impl Poster {
             (points_of self.old.name self.new.name
             (answer_back result (lent_draft head body.old ports.old))) }
     {
-        match self.stand.try_post(rt, head, body, ports, heard) {
+        match self
+            .stand
+            .post_at_current_queue(rt, head, body, ports, heard)
+        {
             Tried::Answered(answer) => answer,
             Tried::Turned(refusal) => {
                 self.stand
-                    .post_onward(rt, yard, refusal, head, body, ports, heard)
+                    .post_at_later_queue(rt, yard, refusal, head, body, ports, heard)
             }
         }
     }

@@ -18,7 +18,7 @@ use std::sync::Wait;
 use std::sync::ledger::{Blank, Ledger};
 
 /// Takes in the passes of all lines, whose rights these are, in order.
-fn take_in_all(store: &Store, pass: &mut Pass, mut rights: Vec<LineRight>)
+fn take_in_all_passes(store: &Store, pass: &mut Pass, mut rights: Vec<LineRight>)
     requires queue { IsSegPassOf store.now.queue pass.old }
     requires taker { known_by pass.old ≡ Takes (take_in (known_by pass.old)) }
     requires rights { map tag_of rights.items ≡ tags_of store.now.queue.web (length rights.items) }
@@ -38,13 +38,13 @@ fn take_in_all(store: &Store, pass: &mut Pass, mut rights: Vec<LineRight>)
 impl TakerQueue {
     /// Looks at the gate, which is retired or closed. Where nobody is inside it takes in the passes
     /// of all lines, unless an earlier call did, and says so.
-    pub(crate) fn settle(&mut self) -> bool
+    pub(crate) fn try_collect_passes(&mut self) -> bool
         requires { IsShut self.old }
         ensures { IsSettling self.old self.new result }
     {
         match self.keeper.look() {
             Looked::Rights(rights) => {
-                take_in_all(&self.store, &mut self.pass, rights);
+                take_in_all_passes(&self.store, &mut self.pass, rights);
                 true
             }
             Looked::Given => true,
@@ -56,7 +56,7 @@ impl TakerQueue {
 
 /// Takes what the queue holds and adds it to the list. Room for an envelope is made before it is
 /// popped, so after an error the list has all that was taken.
-pub(crate) fn collect<L: Ledger, R: Wait>(
+pub(crate) fn take_all_envelopes<L: Ledger, R: Wait>(
     rt: &R,
     queue: &mut TakerQueue,
     envelopes: &mut Vec<Envelope>,
@@ -65,7 +65,7 @@ pub(crate) fn collect<L: Ledger, R: Wait>(
     requires { (blank.name ≡ L.name) × (blank.parts ≡ L.parts) × (L.parts ≡ 2) }
     ensures { IsCollected queue.old queue.new envelopes.old.items envelopes.new.items result }
 {
-    let mut steps = Steps::<L>::begin(blank);
+    let mut steps = Steps::<L>::new_at_zero(blank);
     for _ in rt.forever() {
         envelopes.reserve(1)?;
         match queue.pop(rt, &mut steps) {
@@ -87,7 +87,7 @@ pub(crate) enum Stop {
 
 /// Empties one queue whose gate is retired or closed: it takes in the passes of all lines, and then
 /// what the queue holds, which nobody can add to any more.
-pub(crate) fn empty<R: Wait>(
+pub(crate) fn empty_queue<R: Wait>(
     rt: &R,
     queue: &mut TakerQueue,
     envelopes: &mut Vec<Envelope>,
@@ -95,10 +95,10 @@ pub(crate) fn empty<R: Wait>(
     requires { IsShut queue.old }
     ensures { IsEmptied queue.old queue.new envelopes.old.items envelopes.new.items result }
 {
-    if !queue.settle() {
+    if !queue.try_collect_passes() {
         return Err(Stop::StillInside);
     }
-    match collect::<Brand, R>(rt, queue, envelopes, Blank::new(2)) {
+    match take_all_envelopes::<Brand, R>(rt, queue, envelopes, Blank::new(2)) {
         Ok(()) => Ok(()),
         Err(_) => Err(Stop::NoRoom),
     }

@@ -19,7 +19,7 @@ ghost use Rattle.hub_queue.specs.Yards.{IsHoppedOver, hops_between};
 use crate::error::PostError;
 use crate::left::LeftGates;
 use crate::line_right::{Head, LineRight};
-use crate::onward::{Onward, next_stand};
+use crate::onward::{Onward, take_next_stand};
 use crate::pause::Point;
 use hub_bell::Bell;
 use hub_depot::{Kept, Key};
@@ -92,11 +92,11 @@ impl Stand {
     }
 
     /// Goes on to the next queue, and keeps what shows the gate that it leaves.
-    pub(crate) fn go_to(&mut self, next: Stand)
+    pub(crate) fn move_to_next_queue(&mut self, next: Stand)
         ensures { self.new ≡ gone_to self.old next }
     {
         let (entry, left) = replace(self, next).into_parts();
-        self.left = left.with(entry);
+        self.left = left.add_left_gate(entry);
     }
 }
 
@@ -147,7 +147,7 @@ fn post_inside<H: Hears<Point>, R: Wait>(
 impl Stand {
     /// Posts at the queue where the line stands.
     #[inline(always)]
-    pub(crate) fn try_post<H: Hears<Point>, R: Wait>(
+    pub(crate) fn post_at_current_queue<H: Hears<Point>, R: Wait>(
         &mut self,
         rt: &R,
         head: Head,
@@ -181,7 +181,7 @@ impl Stand {
     /// most `MAX_HOPS` times. It isn't inlined, so that a post at the queue where its line stands
     /// doesn't pay for it.
     #[inline(never)]
-    pub(crate) fn post_onward<L: Lends<Kept<Onward>>, H: Hears<Point>, R: Wait>(
+    pub(crate) fn post_at_later_queue<L: Lends<Kept<Onward>>, H: Hears<Point>, R: Wait>(
         &mut self,
         rt: &R,
         yard: &mut L,
@@ -211,11 +211,11 @@ impl Stand {
                 return Err(PostError::Closed);
             }
             heard.tell(rt, Point::Hopping);
-            let Some(next) = next_stand(rt, yard, self.name) else {
+            let Some(next) = take_next_stand(rt, yard, self.name) else {
                 return Err(PostError::Moving);
             };
-            self.go_to(next);
-            match self.try_post(rt, head, body, ports, heard) {
+            self.move_to_next_queue(next);
+            match self.post_at_current_queue(rt, head, body, ports, heard) {
                 Tried::Answered(answer) => return answer,
                 Tried::Turned(refusal) => found = refusal,
             }

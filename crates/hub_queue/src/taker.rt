@@ -6,7 +6,7 @@ ghost use Rattle.hub_queue.specs.Ending.{IsClosed};
 ghost use Rattle.hub_queue.specs.TakerQueues.{IsShut};
 ghost use Rattle.hub_queue.specs.Taking.{IsTaken, IsTakenOldest, started};
 
-use crate::adopting::open_next;
+use crate::adopting::open_next_queue;
 use crate::error::AdoptError;
 use crate::grave::Grave;
 use crate::left::LeftQueue;
@@ -100,7 +100,7 @@ impl Model for Taker {
 
 /// Takes from the oldest of these queues, which are retired, and frees it once it was left. `None`
 /// where there is none.
-fn take_oldest<L: Ledger, R: Wait>(
+fn take_from_oldest_queue<L: Ledger, R: Wait>(
     rt: &R,
     retired: &mut VecDeque<TakerQueue>,
     left: &mut Option<LeftQueue>,
@@ -111,10 +111,10 @@ fn take_oldest<L: Ledger, R: Wait>(
         steps.old steps.new result }
 {
     let queue = retired.front_mut()?;
-    match queue.take_retired(rt, steps) {
+    match queue.take_as_retired_queue(rt, steps) {
         Took::Again => {
             let queue = retired.pop_front().unwrap();
-            *left = Some(queue.leave());
+            *left = Some(queue.into_left_queue());
             Some(Took::Again)
         }
         took => Some(took),
@@ -144,8 +144,8 @@ impl Taker {
         if !self.newest.enabled() {
             return Took::Disabled;
         }
-        let Some(took) = take_oldest(rt, &mut self.retired, &mut self.left, steps) else {
-            return self.newest.take_newest(rt, steps);
+        let Some(took) = take_from_oldest_queue(rt, &mut self.retired, &mut self.left, steps) else {
+            return self.newest.take_as_newest_queue(rt, steps);
         };
         match took {
             Took::Again => {
@@ -192,12 +192,12 @@ impl Taker {
         ensures { IsAdopted self result }
     {
         let mut lender = yard.as_locked();
-        self.adopt_on(rt, &mut lender, bell)
+        self.adopt_with_lent_yard(rt, &mut lender, bell)
     }
 
     /// The same, over a yard that anybody lends. Of one that is shown, `Taken` comes
     /// only where it keeps a poster under a name of the new queue.
-    pub fn adopt_on<L: Lends<Kept<Onward>>, R: Wait>(
+    pub fn adopt_with_lent_yard<L: Lends<Kept<Onward>>, R: Wait>(
         mut self,
         rt: &R,
         yard: &mut L,
@@ -218,7 +218,7 @@ impl Taker {
         if self.retired.reserve(1).is_err() {
             return Err((AdoptError::OutOfMemory, self));
         }
-        match open_next(rt, yard, self.alloc, self.end, moves + 1, self.lines, &bell) {
+        match open_next_queue(rt, yard, self.alloc, self.end, moves + 1, self.lines, &bell) {
             Ok(queue) => {
                 self.newest.retire();
                 let older = replace(&mut self.newest, queue);

@@ -40,7 +40,7 @@ pub(crate) fn pop<L: Ledger, R: Wait>(
     ensures counted { steps.new ≡ pop_counted steps.old (is_none result) }
 {
     let found = store.queue.pop_as::<Take, R>(rt, pass);
-    steps.tick(found.is_none());
+    steps.count_pop(found.is_none());
     found
 }
 
@@ -121,8 +121,8 @@ impl TakerQueue {
     }
 
     /// Pops once, and counts the envelope for its line.
-    // It is inlined, and so are `take_newest`, `Taker::take` and `pop`, since an envelope is large
-    // and each return copies it.
+    // It is inlined, and so are `take_as_newest_queue`, `Taker::take` and `pop`, since an envelope
+    // is large and each return copies it.
     #[inline(always)]
     pub(crate) fn pop<L: Ledger, R: Wait>(
         &mut self,
@@ -139,7 +139,11 @@ impl TakerQueue {
 
     /// Takes from the newest queue of an end.
     #[inline(always)]
-    pub(crate) fn take_newest<L: Ledger, R: Wait>(&mut self, rt: &R, steps: &mut Steps<L>) -> Took
+    pub(crate) fn take_as_newest_queue<L: Ledger, R: Wait>(
+        &mut self,
+        rt: &R,
+        steps: &mut Steps<L>,
+    ) -> Took
         ensures { IsTakenAt self.old self.new steps.old steps.new result }
     {
         match self.pop(rt, steps) {
@@ -149,7 +153,7 @@ impl TakerQueue {
     }
 
     /// What shows the queue, which is freed with what it holds.
-    pub(crate) fn into_shut(self) -> ShutQueue
+    pub(crate) fn into_queue_witness(self) -> ShutQueue
         ensures { result ≡ self }
     {
         let TakerQueue {
@@ -165,21 +169,25 @@ impl TakerQueue {
     }
 
     /// What shows the queue, which is done with.
-    pub(crate) fn leave(self) -> LeftQueue
+    pub(crate) fn into_left_queue(self) -> LeftQueue
         requires { IsQueueSettled self }
         ensures { result ≡ self }
     {
-        let ShutQueue { pass, gate } = self.into_shut();
+        let ShutQueue { pass, gate } = self.into_queue_witness();
         LeftQueue { pass, gate }
     }
 
     /// Takes from a retired queue. The look comes before the pop: where it found nobody, nothing is
     /// put there any more, and a pop of none shows that everything was taken.
-    pub(crate) fn take_retired<L: Ledger, R: Wait>(&mut self, rt: &R, steps: &mut Steps<L>) -> Took
+    pub(crate) fn take_as_retired_queue<L: Ledger, R: Wait>(
+        &mut self,
+        rt: &R,
+        steps: &mut Steps<L>,
+    ) -> Took
         requires { IsShut self.old }
         ensures { IsTakenOff self.old self.new steps.old steps.new result }
     {
-        let settled = self.settle();
+        let settled = self.try_collect_passes();
         match self.pop(rt, steps) {
             Some(envelope) => Took::Got(envelope),
             None if settled => Took::Again,

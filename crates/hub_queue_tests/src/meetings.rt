@@ -84,7 +84,7 @@ fn meets<L: Ledger, R: Abort + Wait>(
     requires blank { (blank.name ≡ L.name) × (blank.parts ≡ L.parts) × (L.parts ≡ 2) }
 {
     let yard = Depot::new(alloc);
-    let mut steps = Steps::<L>::begin(blank);
+    let mut steps = Steps::<L>::new_at_zero(blank);
     post_one(rt, alloc, &yard, poster, taker);
     post_one(rt, alloc, &yard, poster, taker);
     post_one(rt, alloc, &yard, poster, taker);

@@ -54,7 +54,7 @@ impl Model for Marks {
 }
 
 /// The first bit of a word that is set from this one on.
-fn first_bit(word: u64, from: u32) -> Option<u32>
+fn first_set_bit_from(word: u64, from: u32) -> Option<u32>
     requires { from < 64 }
     ensures some { IfSome result (λ bit. (from ≤ bit) × (bit < 64) × (bit_at word bit ≡ 1)
         × ((other : ℕ) → from ≤ other → other < bit → bit_at word other ≡ 0)) }
@@ -69,7 +69,7 @@ fn first_bit(word: u64, from: u32) -> Option<u32>
 }
 
 /// The first bit that is set in one word, from this one of its bits on.
-fn first_in_word(words: &[u64], place: usize, bit: u32) -> Option<usize>
+fn first_set_bit_in_word(words: &[u64], place: usize, bit: u32) -> Option<usize>
     requires place { place < length words.now }
     requires bit { bit < 64 }
     requires few { length words.now ≤ 2 ^ 40 }
@@ -78,18 +78,18 @@ fn first_in_word(words: &[u64], place: usize, bit: u32) -> Option<usize>
     ensures none { IfNone result (ClearBetween words.now (place * 64 + bit) (place * 64 + 64)) }
     ensures nothing { IfNone result (bit ≡ 0 → slice_index words.now place ≡ 0) }
 {
-    let found = first_bit(words[place], bit)?;
+    let found = first_set_bit_from(words[place], bit)?;
     Some(place * 64 + found as usize)
 }
 
 /// The first bit that is set from this one on.
-fn first_in(words: &[u64], from: usize) -> Option<usize>
+fn first_set_bit_in_words(words: &[u64], from: usize) -> Option<usize>
     requires { length words.now ≤ 2 ^ 40 }
     ensures { IsNextMarked words.now from result }
 {
     let mut bit = (from % 64) as u32;
     for place in from / 64..words.len() {
-        if let Some(key) = first_in_word(words, place, bit) {
+        if let Some(key) = first_set_bit_in_word(words, place, bit) {
             return Some(key);
         }
         bit = 0;
@@ -193,13 +193,17 @@ impl Marks {
         if place >= self.words.len() {
             return None;
         }
-        if let Some(found) = first_in_word(self.words.as_slice(), place, (key % 64) as u32) {
+        if let Some(found) = first_set_bit_in_word(
+            self.words.as_slice(),
+            place,
+            (key % 64) as u32,
+        ) {
             return Some(found);
         }
-        let place = first_in(self.names.as_slice(), place + 1)?;
+        let place = first_set_bit_in_words(self.names.as_slice(), place + 1)?;
         if place >= self.words.len() {
             return None;
         }
-        first_in_word(self.words.as_slice(), place, 0)
+        first_set_bit_in_word(self.words.as_slice(), place, 0)
     }
 }

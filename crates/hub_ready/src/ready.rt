@@ -63,8 +63,8 @@ const GROUP: usize = 16;
 /// ```rust
 /// let mut ready = Ready::new(alloc);
 /// ready.reserve(EndId(7), 0)?;
-/// ready.place(EndId(7), 0);
-/// ready.gather(&mut listener);
+/// ready.mark_and_list(EndId(7), 0);
+/// ready.mark_rung_ends(&mut listener);
 /// assert_eq!(rt; ready.marks.next_from(0), Some(0));
 /// ```
 #[derive(Drop)]
@@ -102,7 +102,7 @@ impl Ready {
     }
 
     /// Marks a key, and lists it under the number of its end, if there is room and none is.
-    pub fn place(&mut self, end: EndId, key: usize)
+    pub fn mark_and_list(&mut self, end: EndId, key: usize)
         ensures set { HasBit self.old.marks key → mark_of self.new.marks key ≡ 1 }
         ensures others { SameBut key self.old.marks self.new.marks }
         ensures listed { (number other : ℕ) → slice_index self.old.listed.items number ≡ other + 1
@@ -120,7 +120,7 @@ impl Ready {
     }
 
     /// Takes the mark of a key away, and lists it no more under this number.
-    pub fn forget(&mut self, end: EndId, key: usize)
+    pub fn unmark_and_unlist(&mut self, end: EndId, key: usize)
         ensures clear { mark_of self.new.marks key ≡ 0 }
         ensures gone { slice_index self.new.listed.items end.0 ≢ key + 1 }
         ensures others { SameBut key self.old.marks self.new.marks }
@@ -131,13 +131,13 @@ impl Ready {
             ⊎ (self.new.listed.items ≡ slice_set self.old.listed.items end.0 0) }
     {
         self.marks.clear(key);
-        if self.leads_to(end, key) {
+        if self.is_key_of_end(end, key) {
             self.listed[end.0 as usize] = 0;
         }
     }
 
     /// The key to which the number of an end leads, where one is listed.
-    pub fn key_of(&self, end: EndId) -> Option<usize>
+    pub fn key_of_end(&self, end: EndId) -> Option<usize>
         ensures { IsKeyOf self.now.listed.items end result }
     {
         match self.listed.get(end.0 as usize) {
@@ -147,7 +147,7 @@ impl Ready {
     }
 
     /// Whether the number of an end leads to this key.
-    pub fn leads_to(&self, end: EndId, key: usize) -> bool
+    pub fn is_key_of_end(&self, end: EndId, key: usize) -> bool
         ensures leads { result ≡ true → LeadsTo self.now.listed.items end key }
         ensures only { LeadsTo self.now.listed.items end key → result ≡ true }
     {
@@ -158,7 +158,7 @@ impl Ready {
     }
 
     /// Marks the keys of the ends that were rung since the last call. Whether there may be one.
-    pub fn gather(&mut self, listener: &mut Listener) -> bool
+    pub fn mark_rung_ends(&mut self, listener: &mut Listener) -> bool
         ensures told { (names : ℕ) × TakesNames listener.old listener.new names
             × (result ≡ not (names == 0)) }
         ensures listed { self.new.listed ≡ self.old.listed }
@@ -177,13 +177,13 @@ impl Ready {
         'groups: while left != 0 {
             let group = left.trailing_zeros();
             left &= !(1u64 << group);
-            self.gather_group(listener, group as usize);
+            self.mark_rung_ends_of_group(listener, group as usize);
         }
         names != 0
     }
 
     /// Marks the keys of the ends that were rung and have their bits in the words of this group.
-    fn gather_group(&mut self, listener: &mut Listener, group: usize)
+    fn mark_rung_ends_of_group(&mut self, listener: &mut Listener, group: usize)
         requires { group < 64 }
         ensures listed { self.new.listed ≡ self.old.listed }
         ensures keeps { KeepsMarks self.old.marks self.new.marks }
@@ -198,12 +198,12 @@ impl Ready {
             × EmptiesBetween (16 * group) (16 * group + 16) steps × EmptiesNamed steps }
     {
         for word in GROUP * group..GROUP * group + GROUP {
-            self.gather_word(listener, word);
+            self.mark_rung_ends_of_word(listener, word);
         }
     }
 
     /// Marks the keys of the ends that were rung and have their bits in this word.
-    fn gather_word(&mut self, listener: &mut Listener, word: usize)
+    fn mark_rung_ends_of_word(&mut self, listener: &mut Listener, word: usize)
         requires { word < 1024 }
         ensures listed { self.new.listed ≡ self.old.listed }
         ensures keeps { KeepsMarks self.old.marks self.new.marks }
@@ -217,11 +217,11 @@ impl Ready {
             × EmptiesBetween word (word + 1) steps × EmptiesNamed steps }
     {
         let bits = listener.take_bits(word);
-        self.mark_bits(word, bits);
+        self.mark_ends_of_bits(word, bits);
     }
 
     /// Marks the keys of the ends that have one of these bits of a word.
-    fn mark_bits(&mut self, word: usize, bits: u64)
+    fn mark_ends_of_bits(&mut self, word: usize, bits: u64)
         requires { word < 1024 }
         ensures listed { self.new.listed ≡ self.old.listed }
         ensures keeps { KeepsMarks self.old.marks self.new.marks }
@@ -233,12 +233,12 @@ impl Ready {
         'bits: while left != 0 {
             let bit = left.trailing_zeros();
             left &= !(1u64 << bit);
-            self.mark_bit(word * 64 + bit as usize);
+            self.mark_ends_of_bit(word * 64 + bit as usize);
         }
     }
 
     /// Marks the keys of the ends that have this bit.
-    fn mark_bit(&mut self, bit: usize)
+    fn mark_ends_of_bit(&mut self, bit: usize)
         requires { bit < 65536 }
         ensures listed { self.new.listed ≡ self.old.listed }
         ensures keeps { KeepsMarks self.old.marks self.new.marks }
@@ -246,12 +246,12 @@ impl Ready {
         ensures only { MarksOfBit bit self.old.listed.items self.old.marks self.new.marks }
     {
         for row in 0..self.listed.len() / BITS + 1 {
-            self.mark_listed(row * BITS + bit);
+            self.mark_key_of_number(row * BITS + bit);
         }
     }
 
     /// Marks the key that is listed under this number, if one is.
-    fn mark_listed(&mut self, number: usize)
+    fn mark_key_of_number(&mut self, number: usize)
         ensures listed { self.new.listed ≡ self.old.listed }
         ensures keeps { KeepsMarks self.old.marks self.new.marks }
         ensures found { (key : ℕ) → slice_index self.old.listed.items number ≡ key + 1

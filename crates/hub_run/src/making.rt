@@ -76,7 +76,11 @@ impl<'s, C: Checkpoint> Drop for Made<'s, C> {
 }
 
 /// Gives each agent a seat at the word of one more agent, which the bell wakes.
-fn add_peer(seats: &mut [Seat], mut orders: Vec<Order>, bell: &Bell) -> Result<(), OutOfMemory>
+fn add_peer_to_every_seat(
+    seats: &mut [Seat],
+    mut orders: Vec<Order>,
+    bell: &Bell,
+) -> Result<(), OutOfMemory>
     ensures { OnOk result ((seat : OrderSeat) → All (λ order. order ≡ seat) orders.items
         → AllGet seat seats.old seats.new) }
 {
@@ -85,14 +89,14 @@ fn add_peer(seats: &mut [Seat], mut orders: Vec<Order>, bell: &Bell) -> Result<(
             return Err(OutOfMemory);
         };
         let bell = bell.clone()?;
-        push(&mut seats[place].peers, Peer { order, bell })?;
+        push_or_drop(&mut seats[place].peers, Peer { order, bell })?;
     }
     Ok(())
 }
 
 /// What an agent is made of, with no peers yet, its bell, and a seat at its order's word for each
 /// of so many agents.
-fn open_seat(
+fn make_agent_seat(
     alloc: Global,
     number: AgentId,
     count: usize,
@@ -129,13 +133,13 @@ impl Seats {
         let mut bells = Vec::new(alloc);
         let mut words = Vec::new(alloc);
         for number in 0..count {
-            let (seat, bell, orders) = open_seat(alloc, AgentId(number as u8), count)?;
-            push(&mut seats, seat)?;
-            push(&mut words, (orders, bell))?;
+            let (seat, bell, orders) = make_agent_seat(alloc, AgentId(number as u8), count)?;
+            push_or_drop(&mut seats, seat)?;
+            push_or_drop(&mut words, (orders, bell))?;
         }
         for (orders, bell) in words {
-            add_peer(&mut seats, orders, &bell)?;
-            push(&mut bells, bell)?;
+            add_peer_to_every_seat(&mut seats, orders, &bell)?;
+            push_or_drop(&mut bells, bell)?;
         }
         Ok(Seats { seats, bells })
     }
@@ -234,19 +238,19 @@ impl<'s, C: Checkpoint> Made<'s, C> {
 
     /// Gives the agent of that number an end that it holds before the run. There is one, since a
     /// script names no other; were there none, an error is better than ends under other numbers.
-    fn give(&mut self, number: AgentId, held: Held) -> Result<(), OutOfMemory>
+    fn give_end_before_run(&mut self, number: AgentId, held: Held) -> Result<(), OutOfMemory>
         ensures given { OnOk result (GivesEnds number (option_to_list (end_held held))
             self.old.agents.items self.new.agents.items) }
         ensures ends { self.new.ends ≡ self.old.ends }
     {
         match self.agents.get_mut(usize::from(number.0)) {
-            Some(agent) => agent.give(held),
+            Some(agent) => agent.give_end_before_run(held),
             None => Err(OutOfMemory),
         }
     }
 
     /// The agents, which hold nothing yet.
-    fn open(
+    fn make_empty_agents(
         alloc: Global,
         shared: &'s Shared,
         roster: &'s SharedRoster,
@@ -264,8 +268,8 @@ impl<'s, C: Checkpoint> Made<'s, C> {
         let mut agents = Vec::new(alloc);
         for seat in seats {
             let kind = declared[agents.len()].kind;
-            let agent = Agent::open(alloc, kind, shared, roster.as_locked(), checkpoint, seat)?;
-            push(&mut agents, agent)?;
+            let agent = Agent::try_new(alloc, kind, shared, roster.as_locked(), checkpoint, seat)?;
+            push_or_drop(&mut agents, agent)?;
         }
         Ok(Made {
             agents,
@@ -291,7 +295,7 @@ impl<'s, C: Checkpoint> Made<'s, C> {
             let number = AgentId(place as u8);
             let (ends, kind) = (&mut self.ends, declared.kind);
             let queue = make_queue(rt, &shared.directory, ends, &self.bells, number, kind)?;
-            self.give(number, queue)?;
+            self.give_end_before_run(number, queue)?;
         }
         Ok(())
     }
@@ -306,8 +310,8 @@ impl<'s, C: Checkpoint> Made<'s, C> {
     {
         for declared in script.channels() {
             let (port, other) = make_channel(alloc, &mut self.ends, &self.bells, declared.at)?;
-            self.give(declared.at, port)?;
-            self.give(declared.at, other)?;
+            self.give_end_before_run(declared.at, port)?;
+            self.give_end_before_run(declared.at, other)?;
         }
         Ok(())
     }
@@ -329,7 +333,7 @@ impl<'s, C: Checkpoint> Made<'s, C> {
         for declared in script.members() {
             let ends = &mut self.ends;
             let member = make_member(alloc, rt, roster, ends, &self.bells, agents, declared)?;
-            self.give(declared.at, member)?;
+            self.give_end_before_run(declared.at, member)?;
         }
         Ok(())
     }
@@ -349,7 +353,7 @@ impl<'s, C: Checkpoint> Made<'s, C> {
         ensures given { IfOk result (λ made. AreGiven script.now made.agents.items) }
         ensures seated { IfOk result (λ made. AreAllSeated made.agents.items) }
     {
-        let mut made = Made::open(alloc, shared, roster, script, checkpoint)?;
+        let mut made = Made::make_empty_agents(alloc, shared, roster, script, checkpoint)?;
         made.add_queues(rt, shared, script)?;
         made.add_channels(alloc, script)?;
         made.add_members(alloc, rt, roster, script)?;
@@ -359,7 +363,7 @@ impl<'s, C: Checkpoint> Made<'s, C> {
 
 /// Appends a value to a list, and drops it where there is no memory. It is generic, so that what
 /// comes back from a list of agents or of ends is no part of a caller's proof.
-pub(crate) fn push<T: Drop>(list: &mut Vec<T>, value: T) -> Result<(), OutOfMemory>
+pub(crate) fn push_or_drop<T: Drop>(list: &mut Vec<T>, value: T) -> Result<(), OutOfMemory>
     ensures items { OnOk result (list.new.items ≡ list.old.items ++ value ∷ []) }
     ensures len { OnOk result (vec_len list.new ≡ vec_len list.old + 1) }
     ensures others { OnOk result ((k : ℕ) (d : T) → k < vec_len list.old

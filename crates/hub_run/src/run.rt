@@ -10,7 +10,7 @@ ghost use Rattle.hub_run.specs.Threads.{ArePromised};
 ghost use Rattle.hub_script.specs.Contents.{declared_agents};
 ghost use Rattle.hub_trace.specs.declared.limits.TheConstants.{MAX_AGENT};
 
-use crate::making::{Made, RunAgent, push};
+use crate::making::{Made, RunAgent, push_or_drop};
 use hub_agent::{Acted, AgentRun, Shared};
 use hub_broadcast::SharedRoster;
 use hub_envelope::{AgentId, OutOfMemory};
@@ -88,7 +88,7 @@ fn start_all<'s, E, C: Checkpoint + Sync, R: Threads + Wait + Sync>(
                 }
             },
         )?;
-        push(&mut handles, handle)?;
+        push_or_drop(&mut handles, handle)?;
     }
     Ok(handles)
 }
@@ -108,14 +108,14 @@ fn join_all<R: Threads + Wait>(
 {
     for handle in handles {
         let AgentRun { log, acted } = handle.join(rt)?;
-        push(&mut run.logs, log)?;
-        push(&mut run.acted, acted)?;
+        push_or_drop(&mut run.logs, log)?;
+        push_or_drop(&mut run.acted, acted)?;
     }
     Ok(run)
 }
 
 /// Makes the agents, and runs them, none of which begins before the threads of all were made.
-fn run_shared<C: Checkpoint + Sync, R: Threads + Wait + Sync>(
+fn run_on_threads<C: Checkpoint + Sync, R: Threads + Wait + Sync>(
     alloc: Global,
     rt: &R,
     shared: &Shared,
@@ -169,8 +169,8 @@ pub fn run_agents<C: Checkpoint + Sync, R: Threads + Wait + Sync>(
     ensures { IfOk result (λ run. AreRunsFor script.now run.logs.items run.acted.items) }
 {
     let (shared, roster) = (Shared::new(alloc), SharedRoster::new(alloc));
-    let ran = run_shared(alloc, rt, &shared, &roster, script, checkpoint);
-    let ended = shared.end(rt);
+    let ran = run_on_threads(alloc, rt, &shared, &roster, script, checkpoint);
+    let ended = shared.close_all_unclaimed(rt);
     let run = ran?;
     ended?;
     Ok(run)

@@ -23,7 +23,7 @@ impl Actor for Tally {
 
     ghost fails = { λ _ _ _. ⊤ };
 
-    fn sees_order(&mut self) -> bool {
+    fn is_ordered_to_stop(&mut self) -> bool {
         self.done >= self.most
     }
 

@@ -2,8 +2,8 @@
 //! answered is shown by the rows of tests/rows/steps.
 use crate::assert_same;
 use hub_core::{
-    Action, Core, OutOfMemory, Outcome, Sender, Step, chain_laws, gate_machine_laws, history_laws,
-    mailbox_laws, pair_laws, queue_laws, run,
+    Action, Core, OutOfMemory, Outcome, Sender, Step, gate_machine_laws, history_laws,
+    history_pair_laws, mailbox_chain_laws, mailbox_laws, queue_laws, run,
 };
 use hub_envelope::{AgentId, Body, EndId, Items, LineId};
 use std::alloc::Global;
@@ -47,7 +47,7 @@ const TOLD: &[&str] = &[
 
 fn push(alloc: Global) -> Result<Action, OutOfMemory> {
     match Body::read(alloc, "{\"a\":1}") {
-        Ok(body) => Ok(Action::Push(LINE, Items::of(Vec::new(alloc)), body)),
+        Ok(body) => Ok(Action::Push(LINE, Items::of_list(Vec::new(alloc)), body)),
         Err(_) => Err(OutOfMemory),
     }
 }
@@ -145,7 +145,7 @@ fn calls_the_laws() {
     history_laws();
     queue_laws();
     gate_machine_laws::<u8>();
-    chain_laws::<u8>();
+    mailbox_chain_laws::<u8>();
     mailbox_laws();
-    pair_laws();
+    history_pair_laws();
 }

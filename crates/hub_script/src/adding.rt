@@ -14,13 +14,13 @@ use crate::error::ScriptError;
 use crate::fields::QUEUE;
 use crate::form::{ActionForm, Form};
 use crate::script::{AgentKind, DeclaredAgent, DeclaredChannel, DeclaredMember};
-use crate::script_reader::{ScriptReader, queue_of};
+use crate::script_reader::{ScriptReader, queue_of_agent};
 use hub_envelope::{AgentId, Body, BodyError, EndId, Items, Text};
 use hub_origin::{Origin, OriginError};
 use std::alloc::Global;
 
 /// The body that was read. What was refused as too large was refused before.
-fn body_or(answer: Result<Body, BodyError>) -> Result<Body, ScriptError>
+fn body_or_syntax_error(answer: Result<Body, BodyError>) -> Result<Body, ScriptError>
     ensures { IsRead result (value_or answer) }
 {
     match answer {
@@ -35,14 +35,18 @@ impl ScriptReader {
     /// Adds what a script line of that form says, or answers the first test that it fails. After an
     /// error nothing is known of the reader.
     #[tactic(auto, unfolding(crate::specs::Context::after_form))]
-    pub(crate) fn add_form(&mut self, alloc: Global, form: Form) -> Result<(), ScriptError>
+    pub(crate) fn check_and_add_form(
+        &mut self,
+        alloc: Global,
+        form: Form,
+    ) -> Result<(), ScriptError>
         ensures { ReadsTo self.new result (after_form (known self.old) form) }
     {
-        self.check_form(&form)?;
-        self.add(alloc, form)
+        self.validate_form(&form)?;
+        self.add_checked_form(alloc, form)
     }
 
-    fn add(&mut self, alloc: Global, form: Form) -> Result<(), ScriptError>
+    fn add_checked_form(&mut self, alloc: Global, form: Form) -> Result<(), ScriptError>
         requires room { has_room (known self.old) ≡ true }
         requires within { is_within (known self.old) form ≡ true }
         ensures { ReadsTo self.new result (adding (known self.old) form) }
@@ -52,7 +56,7 @@ impl ScriptReader {
             Form::Channel { first, second, at } => self.add_channel(alloc, first, second, at),
             Form::Member { name, at, on } => self.add_member(alloc, name, at, on),
             Form::Action { at, action } => {
-                let agent = self.agent_of(at)?;
+                let agent = self.declared_agent(at)?;
                 self.add_action(alloc, agent, action)
             }
         }
@@ -84,8 +88,8 @@ impl ScriptReader {
         requires { has_room (known self.old) ≡ true }
         ensures { ReadsTo self.new result (adding_channel (known self.old) first second at) }
     {
-        let at = self.agent_of(at)?;
-        let (port, other) = self.next_ports();
+        let at = self.declared_agent(at)?;
+        let (port, other) = self.next_channel_ports();
         self.declare(alloc, &first, port, at)?;
         self.declare(alloc, &second, other, at)?;
         self.push_channel(DeclaredChannel { at, first, second })
@@ -102,7 +106,7 @@ impl ScriptReader {
         requires { has_room (known self.old) ≡ true }
         ensures { ReadsTo self.new result (adding_member (known self.old) name at on) }
     {
-        let at = self.agent_of(at)?;
+        let at = self.declared_agent(at)?;
         let member = self.next_member();
         self.declare(alloc, &name, member, at)?;
         self.push_member(DeclaredMember { at, name, on })
@@ -130,25 +134,25 @@ impl ScriptReader {
             ActionForm::Cast { member, body } => self.add_cast(agent, &member, body),
             ActionForm::Start { name } => self.add_start(agent, &name),
             ActionForm::Loaded => {
-                let queue = queue_of(agent);
-                self.act(agent, ActionKind::Loaded { queue })
+                let queue = queue_of_agent(agent);
+                self.push_action(agent, ActionKind::Loaded { queue })
             }
             ActionForm::Close { name } => self.add_close(agent, &name),
-            ActionForm::Wait { messages } => self.act(agent, ActionKind::Wait { messages }),
+            ActionForm::Wait { messages } => self.push_action(agent, ActionKind::Wait { messages }),
             ActionForm::Receive { port } => self.add_receive(agent, &port),
             ActionForm::Order { to } => {
-                let to = self.agent_of(to)?;
-                self.act(agent, ActionKind::Order { to })
+                let to = self.declared_agent(to)?;
+                self.push_action(agent, ActionKind::Order { to })
             }
-            ActionForm::Event { event } => self.act(agent, ActionKind::Event { event }),
+            ActionForm::Event { event } => self.push_action(agent, ActionKind::Event { event }),
             ActionForm::Hand { to } => {
-                let to = self.agent_of(to)?;
-                self.act(agent, ActionKind::Hand { to })?;
-                self.mark_handed(agent)
+                let to = self.declared_agent(to)?;
+                self.push_action(agent, ActionKind::Hand { to })?;
+                self.mark_queue_handed_over(agent)
             }
             ActionForm::Fetch { from } => {
-                let queue = queue_of(self.agent_of(from)?);
-                self.act(agent, ActionKind::Fetch { queue })
+                let queue = queue_of_agent(self.declared_agent(from)?);
+                self.push_action(agent, ActionKind::Fetch { queue })
             }
         }
     }
@@ -169,10 +173,10 @@ impl ScriptReader {
     {
         let source = self.named_end(port)?;
         let ports = self.ends_named(alloc, transfer)?;
-        let body = body_or(body)?;
-        let transfer = self.ends_of(alloc, ports.as_slice())?;
-        let port = self.declared_end(source);
-        self.act(
+        let body = body_or_syntax_error(body)?;
+        let transfer = self.port_ids_of(alloc, ports.as_slice())?;
+        let port = self.end_id_of(source);
+        self.push_action(
             agent,
             ActionKind::Post {
                 port,
@@ -180,7 +184,7 @@ impl ScriptReader {
                 transfer,
             },
         )?;
-        self.release_all(agent, ports.as_slice());
+        self.mark_all_released(agent, ports.as_slice());
         Ok(())
     }
 
@@ -197,11 +201,11 @@ impl ScriptReader {
         requires few { length transfer.now ≤ MAX_PORTS }
         ensures { ReadsTo self.new result (sending (known self.old) agent to body transfer.now) }
     {
-        let queue = queue_of(self.agent_of(to)?);
+        let queue = queue_of_agent(self.declared_agent(to)?);
         let ports = self.ends_named(alloc, transfer)?;
-        let body = body_or(body)?;
-        let transfer = self.ends_of(alloc, ports.as_slice())?;
-        self.act(
+        let body = body_or_syntax_error(body)?;
+        let transfer = self.port_ids_of(alloc, ports.as_slice())?;
+        self.push_action(
             agent,
             ActionKind::Send {
                 queue,
@@ -209,7 +213,7 @@ impl ScriptReader {
                 transfer,
             },
         )?;
-        self.release_all(agent, ports.as_slice());
+        self.mark_all_released(agent, ports.as_slice());
         Ok(())
     }
 
@@ -224,9 +228,9 @@ impl ScriptReader {
         ensures { ReadsTo self.new result (casting (known self.old) agent member.now body) }
     {
         let named = self.named_end(member)?;
-        let body = body_or(body)?;
-        let member = self.declared_end(named);
-        self.act(agent, ActionKind::Cast { member, body })
+        let body = body_or_syntax_error(body)?;
+        let member = self.end_id_of(named);
+        self.push_action(agent, ActionKind::Cast { member, body })
     }
 
     fn add_start(&mut self, agent: AgentId, name: &Text) -> Result<(), ScriptError>
@@ -234,18 +238,18 @@ impl ScriptReader {
         ensures { ReadsTo self.new result
             (adding_action (known self.old) agent (ActionForm.Start name.now)) }
     {
-        let end = self.started_end(agent, name)?;
-        self.act(agent, ActionKind::Start { end })
+        let end = self.end_to_start(agent, name)?;
+        self.push_action(agent, ActionKind::Start { end })
     }
 
     /// What the agent starts: its own queue, or a port.
-    fn started_end(&self, agent: AgentId, name: &Text) -> Result<EndId, ScriptError>
+    fn end_to_start(&self, agent: AgentId, name: &Text) -> Result<EndId, ScriptError>
         ensures { IsRead result (started_end (known self.now) agent name.now) }
     {
         if name.as_str() == QUEUE {
-            Ok(queue_of(agent))
+            Ok(queue_of_agent(agent))
         } else {
-            Ok(self.declared_end(self.named_end(name)?))
+            Ok(self.end_id_of(self.named_end(name)?))
         }
     }
 
@@ -255,9 +259,9 @@ impl ScriptReader {
             (adding_action (known self.old) agent (ActionForm.Close name.now)) }
     {
         let named = self.named_end(name)?;
-        let end = self.declared_end(named);
-        self.act(agent, ActionKind::Close { end })?;
-        self.release(agent, named);
+        let end = self.end_id_of(named);
+        self.push_action(agent, ActionKind::Close { end })?;
+        self.mark_released(agent, named);
         Ok(())
     }
 
@@ -267,8 +271,8 @@ impl ScriptReader {
             (adding_action (known self.old) agent (ActionForm.Receive name.now)) }
     {
         let named = self.named_end(name)?;
-        let port = self.declared_end(named);
-        self.act(agent, ActionKind::Receive { port })?;
-        self.hold(agent, named)
+        let port = self.end_id_of(named);
+        self.push_action(agent, ActionKind::Receive { port })?;
+        self.mark_held(agent, named)
     }
 }

@@ -33,7 +33,7 @@ fn value_in<'v, 'a>(line: &'v Value<'a>, name: &str) -> Result<&'v Value<'a>, Sc
     }
 }
 
-fn word_in<'a>(line: &Value<'a>, name: &str) -> Result<&'a str, ScriptError>
+fn str_in<'a>(line: &Value<'a>, name: &str) -> Result<&'a str, ScriptError>
     ensures { IsReadAs ScriptError.OutOfMemory (λ word. word.now) result
         (field_in TEXT name.now (data_in line.now)) }
 {
@@ -46,7 +46,7 @@ fn word_in<'a>(line: &Value<'a>, name: &str) -> Result<&'a str, ScriptError>
 pub(crate) fn text_in(alloc: Global, line: &Value<'_>, name: &str) -> Result<Text, ScriptError>
     ensures { IsRead result (field_in TEXT name.now (data_in line.now)) }
 {
-    Ok(Text::of(alloc, word_in(line, name)?)?)
+    Ok(Text::of(alloc, str_in(line, name)?)?)
 }
 
 /// A whole number below 2^32.
@@ -62,7 +62,7 @@ pub(crate) fn number_in(line: &Value<'_>, name: &str) -> Result<u32, ScriptError
 pub(crate) fn kind_in(line: &Value<'_>, name: &str) -> Result<AgentKind, ScriptError>
     ensures { IsRead result (field_in KIND name.now (data_in line.now)) }
 {
-    match word_in(line, name)? {
+    match str_in(line, name)? {
         "window" => Ok(AgentKind::Window),
         "worker" => Ok(AgentKind::Worker),
         _ => Err(ScriptError::Syntax),
@@ -70,14 +70,14 @@ pub(crate) fn kind_in(line: &Value<'_>, name: &str) -> Result<AgentKind, ScriptE
 }
 
 /// What `origin_of` answers, unless memory runs out.
-pub(crate) fn url_in(
+pub(crate) fn origin_in(
     alloc: Global,
     line: &Value<'_>,
     name: &str,
 ) -> Result<Result<Origin, OriginError>, ScriptError>
     ensures { IsRead result (field_in URL name.now (data_in line.now)) }
 {
-    let url = word_in(line, name)?;
+    let url = str_in(line, name)?;
     match origin_of(alloc, url) {
         Err(OriginError::OutOfMemory) => Err(ScriptError::OutOfMemory),
         answer => Ok(answer),
@@ -85,7 +85,7 @@ pub(crate) fn url_in(
 }
 
 /// The texts of an array of two.
-pub(crate) fn pair_in(
+pub(crate) fn two_texts_in(
     alloc: Global,
     line: &Value<'_>,
     name: &str,
@@ -110,11 +110,11 @@ pub(crate) fn body_in(
 {
     let value = value_in(line, name)?;
     let bytes = to_vec(alloc, value)?;
-    body_answer(alloc, str::from_utf8(&bytes).unwrap())
+    read_body(alloc, str::from_utf8(&bytes).unwrap())
 }
 
 /// What `Body::read` answers, unless memory runs out.
-fn body_answer(alloc: Global, text: &str) -> Result<Result<Body, BodyError>, ScriptError>
+fn read_body(alloc: Global, text: &str) -> Result<Result<Body, BodyError>, ScriptError>
     ensures { IsRead result (Ok (answer_of text.now)) }
 {
     match Body::read(alloc, text) {
@@ -124,7 +124,7 @@ fn body_answer(alloc: Global, text: &str) -> Result<Result<Body, BodyError>, Scr
 }
 
 /// The texts of an array, none where the field is missing.
-pub(crate) fn list_in(
+pub(crate) fn text_list_in(
     alloc: Global,
     line: &Value<'_>,
     name: &str,
@@ -155,10 +155,10 @@ fn texts_of(alloc: Global, value: &Value<'_>) -> Result<Items<Text>, ScriptError
 }
 
 /// The word `queue`.
-pub(crate) fn queue_in(line: &Value<'_>, name: &str) -> Result<(), ScriptError>
+pub(crate) fn require_queue_word(line: &Value<'_>, name: &str) -> Result<(), ScriptError>
     ensures { IsRead result (field_in QUEUE_WORD name.now (data_in line.now)) }
 {
-    if word_in(line, name)? == QUEUE {
+    if str_in(line, name)? == QUEUE {
         Ok(())
     } else {
         Err(ScriptError::Syntax)
@@ -168,7 +168,7 @@ pub(crate) fn queue_in(line: &Value<'_>, name: &str) -> Result<(), ScriptError>
 pub(crate) fn event_in(line: &Value<'_>, name: &str) -> Result<Event, ScriptError>
     ensures { IsRead result (field_in EVENT name.now (data_in line.now)) }
 {
-    match Event::named(word_in(line, name)?) {
+    match Event::named(str_in(line, name)?) {
         Some(event) => Ok(event),
         None => Err(ScriptError::Syntax),
     }

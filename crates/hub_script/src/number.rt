@@ -32,7 +32,7 @@ fn parse_unsigned(numeral: &Numeral<'_>) -> Option<Number>
 {
     match numeral.to_u64() {
         Some(number) => Some(Number::from(number)),
-        None => nearest(false, numeral),
+        None => nearest_float(false, numeral),
     }
 }
 
@@ -42,11 +42,11 @@ fn parse_negative(numeral: &Numeral<'_>) -> Option<Number>
 {
     match numeral.to_i64(true) {
         Some(number) if number < 0 => Some(Number::from(number)),
-        _ => nearest(true, numeral),
+        _ => nearest_float(true, numeral),
     }
 }
 
-fn nearest(negative: bool, numeral: &Numeral<'_>) -> Option<Number>
+fn nearest_float(negative: bool, numeral: &Numeral<'_>) -> Option<Number>
     ensures { option_map number_view result ≡ float_of negative numeral.now }
 {
     Number::from_f64(numeral.to_float::<f64>(negative))

@@ -63,6 +63,6 @@ impl ScriptReader {
             (λ e. e ≡ ScriptError.OutOfMemory → is_utf8 line.now ≡ true) }
     {
         let form = read_form(alloc, scratch, line)?;
-        self.add_form(alloc, form)
+        self.check_and_add_form(alloc, form)
     }
 }

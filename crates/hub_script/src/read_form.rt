@@ -15,7 +15,8 @@ ghost use Rattle.serde_json.specs.Read.{max_depth, read};
 
 use crate::error::ScriptError;
 use crate::fields::{
-    body_in, event_in, kind_in, list_in, number_in, pair_in, queue_in, text_in, url_in,
+    body_in, event_in, kind_in, number_in, origin_in, require_queue_word, text_in, text_list_in,
+    two_texts_in,
 };
 use crate::form::{ActionForm, Form};
 use crate::keyword::Keyword;
@@ -41,19 +42,19 @@ pub(crate) fn read_form(
     let Ok(text) = str::from_utf8(bytes) else {
         return Err(ScriptError::Syntax);
     };
-    form_in_text(alloc, scratch, text)
+    parse_form(alloc, scratch, text)
 }
 
 /// The form of the JSON object that the text is.
 #[tactic(auto, unfolding(crate::specs::Form::form_in_text))]
-fn form_in_text(alloc: Global, scratch: &mut Scratch, text: &str) -> Result<Form, ScriptError>
+fn parse_form(alloc: Global, scratch: &mut Scratch, text: &str) -> Result<Form, ScriptError>
     ensures { IsRead result (form_in_text text.now) }
 {
     let line = object_in(alloc, scratch, text)?;
     let Some(keyword) = Keyword::of(&line) else {
         return Err(ScriptError::UnknownAction);
     };
-    form_with(alloc, keyword, &line)
+    read_form_with_known_fields(alloc, keyword, &line)
 }
 
 /// The JSON object that the text is.
@@ -116,70 +117,78 @@ fn json_in<'a>(
 
 /// The form that the keyword stands for.
 #[tactic(auto, unfolding(crate::specs::Form::form_with))]
-fn form_with(alloc: Global, keyword: Keyword, line: &Value<'_>) -> Result<Form, ScriptError>
+fn read_form_with_known_fields(
+    alloc: Global,
+    keyword: Keyword,
+    line: &Value<'_>,
+) -> Result<Form, ScriptError>
     requires writable { IsWritable (value_view line.now) }
     ensures { IsRead result (form_with keyword (data_in line.now)) }
 {
-    if has_only(keyword, line) {
-        form_by(alloc, keyword, line)
+    if has_only_form_fields(keyword, line) {
+        read_form_of_keyword(alloc, keyword, line)
     } else {
         Err(ScriptError::Syntax)
     }
 }
 
 /// The form that the keyword's fields make.
-fn form_by(alloc: Global, keyword: Keyword, line: &Value<'_>) -> Result<Form, ScriptError>
+fn read_form_of_keyword(
+    alloc: Global,
+    keyword: Keyword,
+    line: &Value<'_>,
+) -> Result<Form, ScriptError>
     requires writable { IsWritable (value_view line.now) }
     ensures { IsRead result (form_by keyword (data_in line.now)) }
 {
     match keyword {
-        Keyword::Agent => agent_form(alloc, line),
-        Keyword::Channel => channel_form(alloc, line),
-        Keyword::Member => member_form(alloc, line),
-        Keyword::Post => post_form(alloc, line),
-        Keyword::Send => send_form(alloc, line),
-        Keyword::Cast => cast_form(alloc, line),
+        Keyword::Agent => read_agent_form(alloc, line),
+        Keyword::Channel => read_channel_form(alloc, line),
+        Keyword::Member => read_member_form(alloc, line),
+        Keyword::Post => read_post_form(alloc, line),
+        Keyword::Send => read_send_form(alloc, line),
+        Keyword::Cast => read_cast_form(alloc, line),
         Keyword::Start => {
             let name = text_in(alloc, line, "start")?;
-            action_form(line, ActionForm::Start { name })
+            read_action_form(line, ActionForm::Start { name })
         }
         Keyword::Loaded => {
-            queue_in(line, "loaded")?;
-            action_form(line, ActionForm::Loaded)
+            require_queue_word(line, "loaded")?;
+            read_action_form(line, ActionForm::Loaded)
         }
         Keyword::Close => {
             let name = text_in(alloc, line, "close")?;
-            action_form(line, ActionForm::Close { name })
+            read_action_form(line, ActionForm::Close { name })
         }
         Keyword::Wait => {
             let messages = number_in(line, "wait")?;
-            action_form(line, ActionForm::Wait { messages })
+            read_action_form(line, ActionForm::Wait { messages })
         }
         Keyword::Receive => {
             let port = text_in(alloc, line, "receive")?;
-            action_form(line, ActionForm::Receive { port })
+            read_action_form(line, ActionForm::Receive { port })
         }
         Keyword::Order => {
             let to = number_in(line, "order")?;
-            action_form(line, ActionForm::Order { to })
+            read_action_form(line, ActionForm::Order { to })
         }
         Keyword::Event => {
             let event = event_in(line, "event")?;
-            action_form(line, ActionForm::Event { event })
+            read_action_form(line, ActionForm::Event { event })
         }
         Keyword::Hand => {
             let to = number_in(line, "hand")?;
-            action_form(line, ActionForm::Hand { to })
+            read_action_form(line, ActionForm::Hand { to })
         }
         Keyword::Fetch => {
             let from = number_in(line, "fetch")?;
-            action_form(line, ActionForm::Fetch { from })
+            read_action_form(line, ActionForm::Fetch { from })
         }
     }
 }
 
 /// Each field of the object is one of the form's.
-fn has_only(keyword: Keyword, line: &Value<'_>) -> bool
+fn has_only_form_fields(keyword: Keyword, line: &Value<'_>) -> bool
     ensures { result ≡ has_only keyword (data_in line.now) }
 {
     match line {
@@ -201,7 +210,7 @@ fn are_fields_of(keyword: Keyword, fields: &[(&str, Value<'_>)]) -> bool
 }
 
 /// The action of the agent that the field `at` names.
-fn action_form(line: &Value<'_>, action: ActionForm) -> Result<Form, ScriptError>
+fn read_action_form(line: &Value<'_>, action: ActionForm) -> Result<Form, ScriptError>
     ensures { IsRead result (fields_in ((codes "at", NUMBER) ∷ []) (λ at. Form.Action at action)
         (data_in line.now)) }
 {
@@ -209,23 +218,23 @@ fn action_form(line: &Value<'_>, action: ActionForm) -> Result<Form, ScriptError
     Ok(Form::Action { at, action })
 }
 
-fn agent_form(alloc: Global, line: &Value<'_>) -> Result<Form, ScriptError>
+fn read_agent_form(alloc: Global, line: &Value<'_>) -> Result<Form, ScriptError>
     ensures { IsRead result (form_by Keyword.Agent (data_in line.now)) }
 {
     let kind = kind_in(line, "agent")?;
-    let origin = url_in(alloc, line, "origin")?;
+    let origin = origin_in(alloc, line, "origin")?;
     Ok(Form::Agent { kind, origin })
 }
 
-fn channel_form(alloc: Global, line: &Value<'_>) -> Result<Form, ScriptError>
+fn read_channel_form(alloc: Global, line: &Value<'_>) -> Result<Form, ScriptError>
     ensures { IsRead result (form_by Keyword.Channel (data_in line.now)) }
 {
-    let (first, second) = pair_in(alloc, line, "channel")?;
+    let (first, second) = two_texts_in(alloc, line, "channel")?;
     let at = number_in(line, "at")?;
     Ok(Form::Channel { first, second, at })
 }
 
-fn member_form(alloc: Global, line: &Value<'_>) -> Result<Form, ScriptError>
+fn read_member_form(alloc: Global, line: &Value<'_>) -> Result<Form, ScriptError>
     ensures { IsRead result (form_by Keyword.Member (data_in line.now)) }
 {
     let name = text_in(alloc, line, "member")?;
@@ -234,14 +243,14 @@ fn member_form(alloc: Global, line: &Value<'_>) -> Result<Form, ScriptError>
     Ok(Form::Member { name, at, on })
 }
 
-fn post_form(alloc: Global, line: &Value<'_>) -> Result<Form, ScriptError>
+fn read_post_form(alloc: Global, line: &Value<'_>) -> Result<Form, ScriptError>
     requires writable { IsWritable (value_view line.now) }
     ensures { IsRead result (form_by Keyword.Post (data_in line.now)) }
 {
     let port = text_in(alloc, line, "post")?;
     let body = body_in(alloc, line, "body")?;
-    let transfer = list_in(alloc, line, "transfer")?;
-    action_form(
+    let transfer = text_list_in(alloc, line, "transfer")?;
+    read_action_form(
         line,
         ActionForm::Post {
             port,
@@ -251,21 +260,21 @@ fn post_form(alloc: Global, line: &Value<'_>) -> Result<Form, ScriptError>
     )
 }
 
-fn send_form(alloc: Global, line: &Value<'_>) -> Result<Form, ScriptError>
+fn read_send_form(alloc: Global, line: &Value<'_>) -> Result<Form, ScriptError>
     requires writable { IsWritable (value_view line.now) }
     ensures { IsRead result (form_by Keyword.Send (data_in line.now)) }
 {
     let to = number_in(line, "send")?;
     let body = body_in(alloc, line, "body")?;
-    let transfer = list_in(alloc, line, "transfer")?;
-    action_form(line, ActionForm::Send { to, body, transfer })
+    let transfer = text_list_in(alloc, line, "transfer")?;
+    read_action_form(line, ActionForm::Send { to, body, transfer })
 }
 
-fn cast_form(alloc: Global, line: &Value<'_>) -> Result<Form, ScriptError>
+fn read_cast_form(alloc: Global, line: &Value<'_>) -> Result<Form, ScriptError>
     requires writable { IsWritable (value_view line.now) }
     ensures { IsRead result (form_by Keyword.Cast (data_in line.now)) }
 {
     let member = text_in(alloc, line, "cast")?;
     let body = body_in(alloc, line, "body")?;
-    action_form(line, ActionForm::Cast { member, body })
+    read_action_form(line, ActionForm::Cast { member, body })
 }

@@ -50,7 +50,7 @@ pub(crate) struct NameHolder {
 
 impl NameHolder {
     /// That the agent holds what was named.
-    fn of(agent: AgentId, named: NamedEnd) -> NameHolder
+    fn new(agent: AgentId, named: NamedEnd) -> NameHolder
         ensures { result ≡ holding agent named }
     {
         NameHolder {
@@ -71,7 +71,7 @@ pub(crate) struct ScriptReader {
 }
 
 /// The queue that the agent got when it was declared.
-pub(crate) fn queue_of(agent: AgentId) -> EndId
+pub(crate) fn queue_of_agent(agent: AgentId) -> EndId
     ensures { result ≡ queue_of agent }
 {
     EndId(u32::from(agent.0))
@@ -99,21 +99,21 @@ impl ScriptReader {
     }
 
     /// Declarations stand before all actions.
-    pub(crate) fn declares(&self) -> bool
+    pub(crate) fn may_declare(&self) -> bool
         ensures { result ≡ has_no_action (actions (known self.now).script) }
     {
         self.script.actions().is_empty()
     }
 
     /// The script has room for a line more.
-    pub(crate) fn has_room(&self) -> bool
+    pub(crate) fn has_room_for_line(&self) -> bool
         ensures { result ≡ has_room (known self.now) }
     {
         self.script.line_count() < MAX_SCRIPT_LINES
     }
 
     /// The script has room for an agent more.
-    pub(crate) fn has_seat(&self) -> bool
+    pub(crate) fn has_room_for_agent(&self) -> bool
         ensures { result ≡ nat_lt (length (declared_agents (known self.now).script)) MAX_AGENTS }
     {
         self.script.agents().len() < MAX_AGENTS
@@ -133,7 +133,7 @@ impl ScriptReader {
     }
 
     /// The declared agent of that number.
-    pub(crate) fn agent_of(&self, number: u32) -> Result<AgentId, ScriptError>
+    pub(crate) fn declared_agent(&self, number: u32) -> Result<AgentId, ScriptError>
         ensures { IsRead result (agent_of (known self.now) number) }
     {
         if (number as usize) < self.script.agents().len() {
@@ -144,7 +144,7 @@ impl ScriptReader {
     }
 
     /// Whether the agent of that number is declared, and of that kind.
-    pub(crate) fn is_agent(&self, kind: AgentKind, number: u32) -> bool
+    pub(crate) fn is_agent_of_kind(&self, kind: AgentKind, number: u32) -> bool
         ensures { result ≡ is_agent (known self.now) kind number }
     {
         match self.script.agents().get(number as usize) {
@@ -189,7 +189,7 @@ impl ScriptReader {
     }
 
     /// The agent of that number holds what the name names.
-    pub(crate) fn holds_named(&self, agent: u32, name: &Text) -> bool
+    pub(crate) fn agent_holds(&self, agent: u32, name: &Text) -> bool
         ensures { result ≡ holds_named (known self.now) agent name.now }
     {
         match self.look_up(name) {
@@ -219,7 +219,7 @@ impl ScriptReader {
     }
 
     /// The number of the port or member as an end.
-    pub(crate) fn declared_end(&self, named: NamedEnd) -> EndId
+    pub(crate) fn end_id_of(&self, named: NamedEnd) -> EndId
         ensures { result ≡ declared_end (known self.now).script named }
     {
         let before = match named.kind {
@@ -230,33 +230,37 @@ impl ScriptReader {
     }
 
     /// The numbers of the ports as ends.
-    pub(crate) fn ends_of(&self, alloc: Global, ports: &[NamedEnd]) -> Result<Ports, ScriptError>
+    pub(crate) fn port_ids_of(
+        &self,
+        alloc: Global,
+        ports: &[NamedEnd],
+    ) -> Result<Ports, ScriptError>
         requires few { length ports.now ≤ MAX_PORTS }
         ensures { IsRead result (Ok (map (declared_end (known self.now).script) ports.now)) }
     {
-        let ends = self.numbers_of(alloc, ports)?;
+        let ends = self.end_ids_of(alloc, ports)?;
         Ok(Ports::of_list(ends).unwrap())
     }
 
-    fn numbers_of(&self, alloc: Global, ports: &[NamedEnd]) -> Result<Vec<EndId>, OutOfMemory>
+    fn end_ids_of(&self, alloc: Global, ports: &[NamedEnd]) -> Result<Vec<EndId>, OutOfMemory>
         ensures { IfOk result
             (λ ends. ends.items ≡ map (declared_end (known self.now).script) ports.now) }
     {
         ports
             .iter()
-            .map(|port| self.declared_end(*port))
+            .map(|port| self.end_id_of(*port))
             .collect(alloc)
     }
 
     /// Whether the agent of that number has handed its queue on.
-    pub(crate) fn has_handed(&self, number: u32) -> bool
+    pub(crate) fn has_handed_queue_over(&self, number: u32) -> bool
         ensures { result ≡ (known self.now).handed number }
     {
         self.handed.contains(&number)
     }
 
     /// What the ports of the next channel are.
-    pub(crate) fn next_ports(&self) -> (NamedEnd, NamedEnd)
+    pub(crate) fn next_channel_ports(&self) -> (NamedEnd, NamedEnd)
         requires { has_room (known self.now) ≡ true }
         ensures { result
             ≡ (next_port (known self.now).script, second_port (known self.now).script) }
@@ -317,7 +321,7 @@ impl ScriptReader {
     }
 
     /// Adds a script line, which is the action of the agent.
-    pub(crate) fn act(&mut self, at: AgentId, kind: ActionKind) -> Result<(), ScriptError>
+    pub(crate) fn push_action(&mut self, at: AgentId, kind: ActionKind) -> Result<(), ScriptError>
         requires { has_room (known self.old) ≡ true }
         ensures { ReadsTo self.new result (Ok (acting (known self.old) at kind)) }
     {
@@ -326,34 +330,34 @@ impl ScriptReader {
     }
 
     /// The agent holds the name from now on.
-    pub(crate) fn hold(&mut self, agent: AgentId, named: NamedEnd) -> Result<(), ScriptError>
+    pub(crate) fn mark_held(&mut self, agent: AgentId, named: NamedEnd) -> Result<(), ScriptError>
         ensures { ReadsTo self.new result
             (Ok (with_holds (known self.old) (taking_more (holding agent named)))) }
     {
-        self.held.insert(NameHolder::of(agent, named))?;
+        self.held.insert(NameHolder::new(agent, named))?;
         Ok(())
     }
 
     /// The agent doesn't hold the name any more.
-    pub(crate) fn release(&mut self, agent: AgentId, named: NamedEnd)
+    pub(crate) fn mark_released(&mut self, agent: AgentId, named: NamedEnd)
         ensures { known self.new ≡ with_holds (known self.old) (giving (holding agent named)) }
     {
-        self.held.remove(&NameHolder::of(agent, named));
+        self.held.remove(&NameHolder::new(agent, named));
     }
 
     /// The agent doesn't hold the ports any more.
-    pub(crate) fn release_all(&mut self, agent: AgentId, ports: &[NamedEnd])
+    pub(crate) fn mark_all_released(&mut self, agent: AgentId, ports: &[NamedEnd])
         ensures { known self.new ≡ with_holds (known self.old) (giving_all agent ports.now) }
     {
         let mut rest = ports;
         while let Some((first, others)) = rest.split_first() {
-            self.release(agent, *first);
+            self.mark_released(agent, *first);
             rest = others;
         }
     }
 
     /// The agent has handed its queue on.
-    pub(crate) fn mark_handed(&mut self, agent: AgentId) -> Result<(), ScriptError>
+    pub(crate) fn mark_queue_handed_over(&mut self, agent: AgentId) -> Result<(), ScriptError>
         ensures { ReadsTo self.new result (Ok (with_handed (known self.old) agent.0)) }
     {
         self.handed.insert(u32::from(agent.0))?;
@@ -370,11 +374,16 @@ impl ScriptReader {
     ) -> Result<(), ScriptError>
         ensures { ReadsTo self.new result (Ok (declaring (known self.old) name.now named agent)) }
     {
-        self.set_name(alloc, name, named)?;
-        self.hold(agent, named)
+        self.insert_name(alloc, name, named)?;
+        self.mark_held(agent, named)
     }
 
-    fn set_name(&mut self, alloc: Global, name: &Text, named: NamedEnd) -> Result<(), ScriptError>
+    fn insert_name(
+        &mut self,
+        alloc: Global,
+        name: &Text,
+        named: NamedEnd,
+    ) -> Result<(), ScriptError>
         ensures { ReadsTo self.new result
             (Ok (with_names (known self.old) (naming_more name.now named (known self.old).names))) }
     {

@@ -34,20 +34,20 @@ fn is_small(body: &Result<Body, BodyError>) -> bool
 
 impl Form {
     /// The port that posts is in its own list.
-    fn lists_source(&self) -> bool
+    fn transfers_posting_port(&self) -> bool
         ensures { result ≡ lists_source self.now }
     {
         match self {
             Form::Action {
                 action: ActionForm::Post { port, transfer, .. },
                 ..
-            } => { stands_in(port, transfer.as_slice()) }
+            } => { contains_name(port, transfer.as_slice()) }
             _ => false,
         }
     }
 
     /// A name stands twice in the list of ports.
-    fn lists_twice(&self) -> bool
+    fn transfers_port_twice(&self) -> bool
         ensures { result ≡ has_twice (transfer_of self.now) }
     {
         match self {
@@ -64,55 +64,55 @@ impl ScriptReader {
     ghost use Rattle.hub_script.specs.Reader.{known};
 
     /// Makes the tests of the form. What is left of its body or URL is tested when it is added.
-    pub(crate) fn check_form(&self, form: &Form) -> Result<(), ScriptError>
+    pub(crate) fn validate_form(&self, form: &Form) -> Result<(), ScriptError>
         ensures says { IsRead result (run (tests (known self.now) form.now)) }
         ensures room { OnOk result (has_room (known self.now) ≡ true) }
         ensures within { OnOk result (is_within (known self.now) form.now ≡ true) }
     {
-        require(self.is_placed(form), ScriptError::Syntax)?;
-        require(self.are_known(form), ScriptError::UnknownName)?;
+        require(self.is_allowed_here(form), ScriptError::Syntax)?;
+        require(self.names_resolve(form), ScriptError::UnknownName)?;
         require(
-            !form.lists_source(),
+            !form.transfers_posting_port(),
             ScriptError::DataClone(DataCloneCause::Source),
         )?;
         require(
-            !form.lists_twice(),
+            !form.transfers_port_twice(),
             ScriptError::DataClone(DataCloneCause::Twice),
         )?;
         require(
-            self.holds_list(form),
+            self.holds_transferred_ports(form),
             ScriptError::DataClone(DataCloneCause::Detached),
         )?;
-        require(self.has_room(), ScriptError::TooLarge)?;
-        require(self.is_within(form), ScriptError::TooLarge)
+        require(self.has_room_for_line(), ScriptError::TooLarge)?;
+        require(self.is_within_limits(form), ScriptError::TooLarge)
     }
 
     /// Declarations stand before all actions, and declare different names that are free. An action
     /// fits what its agent is and has done.
-    fn is_placed(&self, form: &Form) -> bool
+    fn is_allowed_here(&self, form: &Form) -> bool
         ensures { result ≡ is_placed (known self.now) form.now }
     {
         match form {
-            Form::Agent { .. } => self.declares(),
+            Form::Agent { .. } => self.may_declare(),
             Form::Channel { first, second, .. } => {
-                self.declares()
+                self.may_declare()
                     && self.is_unused(first)
                     && self.is_unused(second)
                     && first.as_str() != second.as_str()
             }
-            Form::Member { name, .. } => self.declares() && self.is_unused(name),
-            Form::Action { at, action } => self.is_timely(*at, action),
+            Form::Member { name, .. } => self.may_declare() && self.is_unused(name),
+            Form::Action { at, action } => self.is_action_allowed(*at, action),
         }
     }
 
-    fn is_timely(&self, at: u32, action: &ActionForm) -> bool
+    fn is_action_allowed(&self, at: u32, action: &ActionForm) -> bool
         ensures { result ≡ is_timely (known self.now) at action.now }
     {
         match action {
             ActionForm::Start { name } => name.as_str() != QUEUE || self.may_start_queue(at),
             ActionForm::Loaded => self.may_start_queue(at),
-            ActionForm::Event { .. } => !self.is_agent(AgentKind::Window, at),
-            ActionForm::Hand { to } => at != *to && !self.has_handed(at),
+            ActionForm::Event { .. } => !self.is_agent_of_kind(AgentKind::Window, at),
+            ActionForm::Hand { to } => at != *to && !self.has_handed_queue_over(at),
             ActionForm::Fetch { from } => at != *from,
             _ => true,
         }
@@ -122,33 +122,33 @@ impl ScriptReader {
     fn may_start_queue(&self, at: u32) -> bool
         ensures { result ≡ may_start_queue (known self.now) at }
     {
-        !(self.is_agent(AgentKind::Worker, at) || self.has_handed(at))
+        !(self.is_agent_of_kind(AgentKind::Worker, at) || self.has_handed_queue_over(at))
     }
 
     /// Agents and names are declared, are of the kind that is meant, and are held where they are
     /// used.
-    fn are_known(&self, form: &Form) -> bool
+    fn names_resolve(&self, form: &Form) -> bool
         ensures { result ≡ are_known (known self.now) form.now }
     {
-        self.are_agents(form)
+        self.names_declared_agents(form)
             && self.are_ports(form)
-            && self.are_members(form)
-            && self.are_held(form)
+            && self.casts_from_member(form)
+            && self.holds_used_ends(form)
     }
 
     #[tactic(auto, using(crate::proofs::Tests::and_true))]
-    fn are_agents(&self, form: &Form) -> bool
+    fn names_declared_agents(&self, form: &Form) -> bool
         ensures { result ≡ list_all (has_agent (known self.now)) (agents_named form.now) }
     {
         match form {
             Form::Agent { .. } => true,
             Form::Channel { at, .. } | Form::Member { at, .. } => self.has_agent(*at),
-            Form::Action { at, action } => self.has_agent(*at) && self.are_others(action),
+            Form::Action { at, action } => self.has_agent(*at) && self.target_is_declared(action),
         }
     }
 
     #[tactic(auto, using(crate::proofs::Tests::and_true))]
-    fn are_others(&self, action: &ActionForm) -> bool
+    fn target_is_declared(&self, action: &ActionForm) -> bool
         ensures { result ≡ list_all (has_agent (known self.now)) (others_named action.now) }
     {
         match action {
@@ -185,7 +185,7 @@ impl ScriptReader {
     }
 
     #[tactic(auto, using(crate::proofs::Tests::and_true))]
-    fn are_members(&self, form: &Form) -> bool
+    fn casts_from_member(&self, form: &Form) -> bool
         ensures { result ≡ list_all (is_member (known self.now)) (members_named form.now) }
     {
         match form {
@@ -198,7 +198,7 @@ impl ScriptReader {
     }
 
     #[tactic(auto, using(crate::proofs::Tests::and_true))]
-    fn are_held(&self, form: &Form) -> bool
+    fn holds_used_ends(&self, form: &Form) -> bool
         ensures { result
             ≡ list_all (λ used. holds_named (known self.now) used.0 used.1) (names_used form.now) }
     {
@@ -206,16 +206,16 @@ impl ScriptReader {
             return true;
         };
         match action {
-            ActionForm::Post { port, .. } => self.holds_named(*at, port),
-            ActionForm::Cast { member, .. } => self.holds_named(*at, member),
-            ActionForm::Start { name } => name.as_str() == QUEUE || self.holds_named(*at, name),
-            ActionForm::Close { name } => self.holds_named(*at, name),
+            ActionForm::Post { port, .. } => self.agent_holds(*at, port),
+            ActionForm::Cast { member, .. } => self.agent_holds(*at, member),
+            ActionForm::Start { name } => name.as_str() == QUEUE || self.agent_holds(*at, name),
+            ActionForm::Close { name } => self.agent_holds(*at, name),
             _ => true,
         }
     }
 
     /// The agent holds the ports that it transfers.
-    fn holds_list(&self, form: &Form) -> bool
+    fn holds_transferred_ports(&self, form: &Form) -> bool
         ensures { result ≡ holds_list (known self.now) form.now }
     {
         match form {
@@ -233,15 +233,15 @@ impl ScriptReader {
         names
             .as_slice()
             .iter()
-            .all(|name| self.holds_named(agent, name))
+            .all(|name| self.agent_holds(agent, name))
     }
 
     /// Agents, listed ports and bodies are within their limits.
-    fn is_within(&self, form: &Form) -> bool
+    fn is_within_limits(&self, form: &Form) -> bool
         ensures { result ≡ is_within (known self.now) form.now }
     {
         match form {
-            Form::Agent { .. } => self.has_seat(),
+            Form::Agent { .. } => self.has_room_for_agent(),
             Form::Action {
                 action: ActionForm::Post { body, transfer, .. }
                 | ActionForm::Send { body, transfer, .. },
@@ -257,7 +257,7 @@ impl ScriptReader {
 }
 
 /// Whether the name stands in the list.
-pub(crate) fn stands_in(name: &Text, names: &[Text]) -> bool
+pub(crate) fn contains_name(name: &Text, names: &[Text]) -> bool
     ensures { result ≡ stands_in name.now names.now }
 {
     names.iter().any(|other| other.as_str() == name.as_str())
@@ -270,7 +270,7 @@ pub(crate) fn has_twice(names: &[Text]) -> bool
 {
     let mut rest = names;
     while let Some((first, others)) = rest.split_first() {
-        if stands_in(first, others) {
+        if contains_name(first, others) {
             return true;
         }
         rest = others;

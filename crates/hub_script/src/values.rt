@@ -56,13 +56,13 @@ pub(crate) fn is_in_range(value: &Value<'_>) -> bool
     match value {
         Value::Null | Value::Bool(_) | Value::String(_) => true,
         Value::Number(text) => number_of(text).is_some(),
-        Value::Array(items) => items_in_range(items),
-        Value::Object(members) => members_in_range(members),
+        Value::Array(items) => items_all_in_range(items),
+        Value::Object(members) => members_all_in_range(members),
     }
 }
 
 #[cycle(is_in_range)]
-fn items_in_range(items: &[Value<'_>]) -> bool
+fn items_all_in_range(items: &[Value<'_>]) -> bool
     ensures { result ≡ items_in_range (items_view items.now) }
 {
     for item in items {
@@ -74,7 +74,7 @@ fn items_in_range(items: &[Value<'_>]) -> bool
 }
 
 #[cycle(is_in_range)]
-fn members_in_range(members: &[(&str, Value<'_>)]) -> bool
+fn members_all_in_range(members: &[(&str, Value<'_>)]) -> bool
     ensures { result ≡ members_in_range (members_view members.now) }
 {
     for member in members {

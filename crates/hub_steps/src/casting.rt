@@ -4,7 +4,7 @@ ghost use Rattle.std.specs.Prelude.{IfOk};
 ghost use Rattle.hub_steps.specs.Performed.{ComputesAt};
 ghost use Rattle.hub_steps.specs.Unfolding.{cast, cast_each, cast_inside, cast_over};
 
-use crate::entering::take_step;
+use crate::entering::take_core_step;
 use crate::shown::{CastPost, Shown};
 use hub_core::{Action, Core, OutOfMemory, Outcome, Sender};
 use hub_envelope::{Body, EndId, Items, LineId};
@@ -23,9 +23,15 @@ pub fn cast(
         ComputesAt core.old core.new (cast memory_refused end ports body) shown) }
 {
     let action = Action::Cast(end, ports, body.clone()?);
-    match take_step(core, action, memory_refused)? {
+    match take_core_step(core, action, memory_refused)? {
         Outcome::Destinations(ends) => {
-            let posts = cast_each(alloc, core, ends.as_slice(), &body, memory_refused)?;
+            let posts = post_at_each_destination(
+                alloc,
+                core,
+                ends.as_slice(),
+                &body,
+                memory_refused,
+            )?;
             Ok(Shown::Cast(posts))
         }
         answer => Ok(Shown::Answer(answer)),
@@ -33,7 +39,7 @@ pub fn cast(
 }
 
 /// Posts a body at each end, in order.
-fn cast_each(
+fn post_at_each_destination(
     alloc: Global,
     core: &mut Core,
     ends: &[EndId],
@@ -45,15 +51,15 @@ fn cast_each(
 {
     let mut posts = Vec::with_capacity(alloc, ends.len())?;
     for end in ends {
-        let outcome = cast_over(alloc, core, *end, body, memory_refused)?;
+        let outcome = post_at_destination(alloc, core, *end, body, memory_refused)?;
         let end = *end;
         posts.push(CastPost { end, outcome })?;
     }
-    Ok(Items::of(posts))
+    Ok(Items::of_list(posts))
 }
 
 /// Enters, pushes where the poster is inside, and leaves.
-fn cast_over(
+fn post_at_destination(
     alloc: Global,
     core: &mut Core,
     end: EndId,
@@ -65,15 +71,15 @@ fn cast_over(
 {
     let line = LineId(0);
     let sender = Sender { end, line };
-    let entered = take_step(core, Action::Enter(sender), memory_refused)?;
-    let answer = push_inside(alloc, core, sender, body, entered, memory_refused)?;
+    let entered = take_core_step(core, Action::Enter(sender), memory_refused)?;
+    let answer = push_if_entered(alloc, core, sender, body, entered, memory_refused)?;
     // It leaves whatever it was answered.
-    take_step(core, Action::Leave(sender), memory_refused)?;
+    take_core_step(core, Action::Leave(sender), memory_refused)?;
     Ok(answer)
 }
 
 /// Pushes where the poster is inside. Answers what the Push was answered, or else the Enter.
-fn push_inside(
+fn push_if_entered(
     alloc: Global,
     core: &mut Core,
     sender: Sender,
@@ -87,7 +93,7 @@ fn push_inside(
     match entered {
         Outcome::In => {
             let push = Action::Push(sender, Items::none(alloc), body.clone()?);
-            take_step(core, push, memory_refused)
+            take_core_step(core, push, memory_refused)
         }
         entered => Ok(entered),
     }

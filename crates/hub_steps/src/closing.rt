@@ -8,7 +8,7 @@ ghost use Rattle.hub_steps.specs.Performed.{ComputesAt};
 ghost use Rattle.hub_steps.specs.Unfolding.{close, close_each, close_ports, shown_closing};
 ghost use Rattle.hub_steps.specs.Unfolding.{notice_line, sweep, tell};
 
-use crate::entering::{enter, show_step, take_step};
+use crate::entering::{enter_queue_with_hops, take_core_step, take_step_and_show};
 use crate::shown::Shown;
 use hub_core::{Action, Core, OutOfMemory, Outcome, Sender};
 use hub_envelope::{EndId, Envelope};
@@ -20,11 +20,11 @@ pub fn close(core: &mut Core, end: EndId, memory_refused: bool) -> Result<Shown,
         ComputesAt core.old core.new (close memory_refused end) shown) }
 {
     let Some(line) = notice_line(core, end) else {
-        return show_step(core, Action::Close(end), memory_refused);
+        return take_step_and_show(core, Action::Close(end), memory_refused);
     };
-    let told = tell(core, line, memory_refused)?;
-    take_step(core, Action::Leave(line), memory_refused)?;
-    let closed = take_step(core, Action::Close(end), memory_refused)?;
+    let told = enter_and_put_notice(core, line, memory_refused)?;
+    take_core_step(core, Action::Leave(line), memory_refused)?;
+    let closed = take_core_step(core, Action::Close(end), memory_refused)?;
     Ok(shown_closing(told, closed))
 }
 
@@ -34,7 +34,7 @@ fn notice_line(core: &Core, end: EndId) -> Option<Sender>
     ensures { (h : History) → Shows core.now h → result ≡ notice_line end (facts h) }
 {
     if core.may_close(end) {
-        core.sender_of(end)
+        core.line_of_port(end)
     } else {
         None
     }
@@ -42,11 +42,15 @@ fn notice_line(core: &Core, end: EndId) -> Option<Sender>
 
 /// Enters, and puts the notice where the poster is inside. Answers what the Notice was answered, or
 /// else what the last Enter was.
-fn tell(core: &mut Core, line: Sender, memory_refused: bool) -> Result<Outcome, OutOfMemory>
+fn enter_and_put_notice(
+    core: &mut Core,
+    line: Sender,
+    memory_refused: bool,
+) -> Result<Outcome, OutOfMemory>
     ensures { IfOk result (λ told. ComputesAt core.old core.new (tell memory_refused line) told) }
 {
-    match enter(core, line, memory_refused)? {
-        Outcome::In => take_step(core, Action::Notice(line), memory_refused),
+    match enter_queue_with_hops(core, line, memory_refused)? {
+        Outcome::In => take_core_step(core, Action::Notice(line), memory_refused),
         entered => Ok(entered),
     }
 }
@@ -63,7 +67,11 @@ fn shown_closing(told: Outcome, closed: Outcome) -> Shown
 }
 
 /// Closes each end, in order.
-pub fn close_each(core: &mut Core, ends: &[EndId], memory_refused: bool) -> Result<(), OutOfMemory>
+pub fn close_all_ends(
+    core: &mut Core,
+    ends: &[EndId],
+    memory_refused: bool,
+) -> Result<(), OutOfMemory>
     ensures { OnOk result (ComputesAt core.old core.new (close_each memory_refused ends.now) tt) }
 {
     for end in ends {
@@ -73,19 +81,23 @@ pub fn close_each(core: &mut Core, ends: &[EndId], memory_refused: bool) -> Resu
 }
 
 /// Sweeps an end, and closes each end that the discarded envelopes name, in order.
-pub fn sweep(core: &mut Core, end: EndId, memory_refused: bool) -> Result<Shown, OutOfMemory>
+pub fn sweep_and_close_ports(
+    core: &mut Core,
+    end: EndId,
+    memory_refused: bool,
+) -> Result<Shown, OutOfMemory>
     ensures { IfOk result (λ shown.
         ComputesAt core.old core.new (sweep memory_refused end) shown) }
 {
-    let answer = take_step(core, Action::Sweep(end), memory_refused)?;
+    let answer = take_core_step(core, Action::Sweep(end), memory_refused)?;
     if let Outcome::Discarded(envelopes) = &answer {
-        close_ports(core, envelopes.as_slice(), memory_refused)?;
+        close_ports_of_envelopes(core, envelopes.as_slice(), memory_refused)?;
     }
     Ok(Shown::Answer(answer))
 }
 
 /// Closes the ports of each envelope, in order.
-fn close_ports(
+fn close_ports_of_envelopes(
     core: &mut Core,
     envelopes: &[Envelope],
     memory_refused: bool,
@@ -94,7 +106,7 @@ fn close_ports(
         (close_ports memory_refused envelopes.now) tt) }
 {
     for envelope in envelopes {
-        close_each(core, envelope.ports.as_slice(), memory_refused)?;
+        close_all_ends(core, envelope.ports.as_slice(), memory_refused)?;
     }
     Ok(())
 }

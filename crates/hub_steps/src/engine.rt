@@ -9,10 +9,10 @@ ghost use Rattle.hub_steps.specs.Steps.{steps_from};
 ghost use Rattle.hub_steps.specs.declared.step_line.StepLine.{StepLine as Line};
 
 use crate::read_step_line::read_step_line;
-use crate::run::{HeldBack, run_held};
+use crate::run::{HeldBack, run_with_output_held};
 use crate::step_line::StepLineError;
 use hub_engine::{
-    CountedReader, CountedWriter, Device, Engine, ExitStatus, end_unread, run_engine,
+    CountedReader, CountedWriter, Device, Engine, ExitStatus, run_engine, write_input_error,
 };
 use hub_text::split_text_line;
 use std::alloc::Global;
@@ -55,9 +55,9 @@ impl Engine for StepsEngine {
         input: Vec<u8>,
         writer: &mut CountedWriter<W>,
     ) -> Result<ExitStatus, Device> {
-        let held = match run_held(alloc, &input) {
+        let held = match run_with_output_held(alloc, &input) {
             Ok(held) => held,
-            Err((line, error)) => return end_unread(alloc, writer, line, error.name()),
+            Err((line, error)) => return write_input_error(alloc, writer, line, error.name()),
         };
         let HeldBack {
             mut run,
@@ -66,13 +66,13 @@ impl Engine for StepsEngine {
             has_memory,
         } = held;
         // Nothing is written before the whole input has been read.
-        if let Err((line, error)) = test_steps(alloc, number, rest) {
-            return end_unread(alloc, writer, line, error.name());
+        if let Err((line, error)) = check_step_lines(alloc, number, rest) {
+            return write_input_error(alloc, writer, line, error.name());
         }
         if has_memory {
             run.run_rest(alloc, rest, writer)
         } else {
-            run.cut_short(writer)
+            run.finish_out_of_memory(writer)
         }
     }
 }
@@ -80,7 +80,7 @@ impl Engine for StepsEngine {
 /// Tests that each text line is a step line. They end at LF; the last LF may be missing. An error
 /// comes with the number of its text line, where `before` come before the first; of several bad
 /// ones the first is told. Memory may run out at any text that isn't empty.
-fn test_steps(alloc: Global, before: usize, text: &[u8]) -> Result<(), (usize, StepLineError)>
+fn check_step_lines(alloc: Global, before: usize, text: &[u8]) -> Result<(), (usize, StepLineError)>
     requires room { before + length text.now ≤ usize.MAX }
     ensures ok { OnOk result ((lines : List Line)
         × (steps_from (before + 1) (text_lines_of text.now) ≡ Ok lines)) }

@@ -14,26 +14,30 @@ use hub_envelope::MAX_HOPS;
 
 /// Enters, and goes on from retired queues, at most `MAX_HOPS` times. Answers the last Enter's
 /// outcome: `Moved` where that queue was retired too.
-pub fn enter(core: &mut Core, sender: Sender, memory_refused: bool) -> Result<Outcome, OutOfMemory>
+pub fn enter_queue_with_hops(
+    core: &mut Core,
+    sender: Sender,
+    memory_refused: bool,
+) -> Result<Outcome, OutOfMemory>
     ensures { IfOk result (λ entered.
         ComputesAt core.old core.new (enter MAX_HOPS memory_refused sender) entered) }
 {
     for _hop in 0..MAX_HOPS {
-        let entered = take_step(core, Action::Enter(sender), memory_refused)?;
+        let entered = take_core_step(core, Action::Enter(sender), memory_refused)?;
         if !matches!(entered, Outcome::Moved) {
             return Ok(entered);
         }
-        drop(take_step(core, Action::Leave(sender), memory_refused)?);
-        drop(take_step(core, Action::Hop(sender), memory_refused)?);
+        drop(take_core_step(core, Action::Leave(sender), memory_refused)?);
+        drop(take_core_step(core, Action::Hop(sender), memory_refused)?);
     }
-    take_step(core, Action::Enter(sender), memory_refused)
+    take_core_step(core, Action::Enter(sender), memory_refused)
 }
 
 /// Takes a step, whose outcome is shown.
-// It is inlined, and so is `take_step`, since each caller knows which step it takes.
+// It is inlined, and so is `take_core_step`, since each caller knows which step it takes.
 #[inline(always)]
 #[tactic(auto, using(crate::proofs::Computing::shown_as))]
-pub fn show_step(
+pub fn take_step_and_show(
     core: &mut Core,
     action: Action,
     memory_refused: bool,
@@ -43,13 +47,13 @@ pub fn show_step(
     ensures memory { OnErr result (takes_memory action ≡ true) }
     ensures still { OnErr result (StillShows core.old core.new) }
 {
-    let answer = take_step(core, action, memory_refused)?;
+    let answer = take_core_step(core, action, memory_refused)?;
     Ok(Shown::Answer(answer))
 }
 
 /// Takes a step, with memory refused in it or not.
 #[inline(always)]
-pub fn take_step(
+pub fn take_core_step(
     core: &mut Core,
     action: Action,
     memory_refused: bool,

@@ -21,4 +21,4 @@ pub use engine::{run_steps, step_text_laws};
 pub use session::{Reply, Session, session_laws};
 pub use shown::{CastPost, Shown};
 pub use step_line::{AgentUrl, Command, PosterCommand, PosterName, StepLine, StepLineError};
-pub use text::write_shown;
+pub use text::write_shown_outcome_line;

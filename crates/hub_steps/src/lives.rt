@@ -28,7 +28,7 @@ impl WorkerLife {
     }
 
     /// The first time that the agent is found ending its life is terminated.
-    fn end(&mut self)
+    fn terminate(&mut self)
         ensures { Some self.new ≡ ended (Some self.old) }
     {
         if !self.has_ended {
@@ -38,7 +38,7 @@ impl WorkerLife {
         }
     }
 
-    fn event(&mut self, event: Event) -> Shown
+    fn apply_event(&mut self, event: Event) -> Shown
         ensures shown { result ≡ event_shown event (Some (Some self.old)) }
         ensures life { Some self.new ≡ happened event (Some self.old) }
     {
@@ -94,7 +94,7 @@ impl Lives {
     }
 
     /// The agent made a worker's queue.
-    pub fn begin(&mut self, agent: AgentId)
+    pub fn begin_life(&mut self, agent: AgentId)
         ensures { self.new ≡ change_life begun agent.0 self.old }
     {
         if let Some(found) = self.of_agents.get_mut(agent.0 as usize) {
@@ -105,19 +105,19 @@ impl Lives {
     }
 
     /// The agent was found ending.
-    pub fn end(&mut self, agent: AgentId)
+    pub fn terminate_life(&mut self, agent: AgentId)
         ensures { self.new ≡ change_life ended agent.0 self.old }
     {
         let Some(found) = self.of_agents.get_mut(agent.0 as usize) else {
             return;
         };
         if let Some(worker) = found {
-            worker.end();
+            worker.terminate();
         }
     }
 
     /// Takes an event of the agent's life, and gives what it shows.
-    pub fn event(&mut self, agent: AgentId, event: Event) -> Shown
+    pub fn apply_event(&mut self, agent: AgentId, event: Event) -> Shown
         ensures shown { result ≡ event_shown event (slice_get self.old agent.0) }
         ensures lives { self.new ≡ change_life (happened event) agent.0 self.old }
     {
@@ -125,7 +125,7 @@ impl Lives {
             return Shown::Answer(Outcome::NotNow);
         };
         match found {
-            Some(worker) => worker.event(event),
+            Some(worker) => worker.apply_event(event),
             None => Shown::Answer(Outcome::NotNow),
         }
     }

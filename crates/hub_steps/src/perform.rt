@@ -10,12 +10,12 @@ ghost use Rattle.hub_steps.specs.Unfolding.{on_line_of, poster_command_takes_mem
 ghost use Rattle.hub_steps.specs.Unfolding.{shown_step, takes_one_step};
 
 use crate::casting::cast;
-use crate::closing::{close, sweep};
-use crate::entering::{show_step, take_step};
+use crate::closing::{close, sweep_and_close_ports};
+use crate::entering::{take_core_step, take_step_and_show};
 use crate::lives::Lives;
 use crate::posting::post;
 use crate::shown::Shown;
-use crate::starting::{adopt, load, make_agent, make_member, make_worker_queue};
+use crate::starting::{adopt, make_agent, make_member, make_worker_queue, start_client_queue};
 use crate::step_line::{Command, PosterCommand, PosterName, StepLine};
 use hub_core::{Action, Core, Kind, OutOfMemory, Outcome, Sender};
 use hub_envelope::{AgentId, EndId, LineId, MAX_LINES};
@@ -46,8 +46,17 @@ pub fn perform(
         memory_refused,
     } = line;
     match command {
-        Command::At(poster, command) => perform_at(core, poster, command, memory_refused),
-        Command::Step(Action::Take(end)) => show_step(core, Action::Take(end), memory_refused),
+        Command::At(poster, command) => perform_poster_command(
+            core,
+            poster,
+            command,
+            memory_refused,
+        ),
+        Command::Step(Action::Take(end)) => take_step_and_show(
+            core,
+            Action::Take(end),
+            memory_refused,
+        ),
         command => {
             let line = StepLine {
                 command,
@@ -79,24 +88,29 @@ fn perform_rarer(
         memory_refused,
     } = line;
     match command {
-        Command::Step(action) => show_step(core, action, memory_refused),
+        Command::Step(action) => take_step_and_show(core, action, memory_refused),
         Command::Agent(url) => make_agent(core, lives, url, memory_refused),
         Command::Worker(agent) => make_worker_queue(core, lives, agent, memory_refused),
         Command::Member(agent, name) => make_member(core, agent, name, memory_refused),
-        Command::At(poster, command) => perform_at(core, poster, command, memory_refused),
-        Command::Loaded(end) => load(core, end, memory_refused),
+        Command::At(poster, command) => perform_poster_command(
+            core,
+            poster,
+            command,
+            memory_refused,
+        ),
+        Command::Loaded(end) => start_client_queue(core, end, memory_refused),
         Command::Adopt(end, agent) => adopt(core, end, agent, memory_refused),
         Command::Close(end) => close(core, end, memory_refused),
-        Command::Sweep(end) => sweep(core, end, memory_refused),
-        Command::See(agent) => see(core, lives, agent, memory_refused),
+        Command::Sweep(end) => sweep_and_close_ports(core, end, memory_refused),
+        Command::See(agent) => stop_agent_if_requested(core, lives, agent, memory_refused),
         Command::Cast(end, ports, body) => cast(alloc, core, end, ports, body, memory_refused),
-        Command::Event(agent, event) => Ok(lives.event(agent, event)),
+        Command::Event(agent, event) => Ok(lives.apply_event(agent, event)),
     }
 }
 
 /// Takes the core's steps of a step line about a poster. One that names nothing takes none.
 #[tactic(auto, using(crate::proofs::Computing::on_lines))]
-fn perform_at(
+fn perform_poster_command(
     core: &mut Core,
     poster: PosterName,
     command: PosterCommand,
@@ -107,7 +121,7 @@ fn perform_at(
     ensures memory { OnErr result (poster_command_takes_memory command ≡ true) }
     ensures still { OnErr result (is_post command ≡ false → StillShows core.old core.new) }
 {
-    let Some(sender) = sender_of(core, poster) else {
+    let Some(sender) = line_of_poster(core, poster) else {
         return Ok(Shown::Answer(Outcome::NotNow));
     };
     let action = match command {
@@ -120,15 +134,15 @@ fn perform_at(
             return post(core, sender, ports, body, memory_refused);
         }
     };
-    show_step(core, action, memory_refused)
+    take_step_and_show(core, action, memory_refused)
 }
 
 /// The line that a poster posts on. `None` where it names nothing.
-fn sender_of(core: &Core, poster: PosterName) -> Option<Sender>
+fn line_of_poster(core: &Core, poster: PosterName) -> Option<Sender>
     ensures { (h : History) → Shows core.now h → result ≡ sender_of poster (facts h) }
 {
     match poster {
-        PosterName::Port(port) => core.sender_of(port),
+        PosterName::Port(port) => core.line_of_port(port),
         PosterName::Line(end, line) => line_of_queue(core, end, line),
     }
 }
@@ -152,7 +166,7 @@ fn line_of_queue(core: &Core, end: EndId, line: LineId) -> Option<Sender>
 
 /// An agent looks whether it was ordered to end. The life of one that ends is terminated, once.
 #[tactic(auto, using(crate::proofs::Computing::shown_as))]
-fn see(
+fn stop_agent_if_requested(
     core: &mut Core,
     lives: &mut Lives,
     agent: AgentId,
@@ -164,9 +178,9 @@ fn see(
         lives.new ≡ lives_after (Command.See agent) shown lives.old) }
     ensures still { OnErr result (StillShows core.old core.new × (lives.new ≡ lives.old)) }
 {
-    let answer = take_step(core, Action::See(agent), memory_refused)?;
+    let answer = take_core_step(core, Action::See(agent), memory_refused)?;
     if matches!(answer, Outcome::Ending(_)) {
-        lives.end(agent);
+        lives.terminate_life(agent);
     }
     Ok(Shown::Answer(answer))
 }

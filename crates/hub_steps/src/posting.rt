@@ -8,8 +8,8 @@ ghost use Rattle.hub_core.specs.Shows.{Shows};
 ghost use Rattle.hub_steps.specs.Performed.{ComputesAt};
 ghost use Rattle.hub_steps.specs.Unfolding.{post, send};
 
-use crate::closing::close_each;
-use crate::entering::{enter, take_step};
+use crate::closing::close_all_ends;
+use crate::entering::{enter_queue_with_hops, take_core_step};
 use crate::shown::Shown;
 use hub_core::{Action, Core, Listing, OutOfMemory, Outcome, Sender};
 use hub_envelope::{Body, EndId, Items, MAX_PORTS};
@@ -33,10 +33,10 @@ pub fn post(
     if listed.len() > MAX_PORTS {
         return Ok(Shown::Answer(Outcome::TooManyPorts));
     }
-    match listing_of(core, sender, listed) {
-        Listing::Good => send(core, sender, ports, body, memory_refused),
+    match check_port_list(core, sender, listed) {
+        Listing::Good => enter_push_and_leave(core, sender, ports, body, memory_refused),
         Listing::HoldsTarget => {
-            close_each(core, listed, memory_refused)?;
+            close_all_ends(core, listed, memory_refused)?;
             Ok(Shown::Doomed)
         }
         Listing::Bad => Ok(Shown::Answer(Outcome::NotNow)),
@@ -46,18 +46,18 @@ pub fn post(
 /// What the ports are to the message of a poster that may post. No ports are a good list to each of
 /// them, so that the core is asked about others alone.
 #[inline(always)]
-fn listing_of(core: &Core, sender: Sender, ports: &[EndId]) -> Listing
+fn check_port_list(core: &Core, sender: Sender, ports: &[EndId]) -> Listing
     requires { (h : History) → Shows core.now h → may_post (facts h) sender ≡ true }
     ensures { (h : History) → Shows core.now h → result ≡ listing (facts h) sender ports.now }
 {
     if ports.is_empty() {
         return Listing::Good;
     }
-    core.listing(sender, ports)
+    core.check_port_list(sender, ports)
 }
 
 /// Enters, pushes where the poster is inside, and leaves.
-fn send(
+fn enter_push_and_leave(
     core: &mut Core,
     sender: Sender,
     ports: Items<EndId>,
@@ -67,20 +67,20 @@ fn send(
     ensures { IfOk result (λ shown.
         ComputesAt core.old core.new (send memory_refused ports body sender) shown) }
 {
-    match enter(core, sender, memory_refused)? {
+    match enter_queue_with_hops(core, sender, memory_refused)? {
         Outcome::In => {
             let push = Action::Push(sender, ports, body);
-            let answer = take_step(core, push, memory_refused)?;
+            let answer = take_core_step(core, push, memory_refused)?;
             // It leaves whatever the push was answered.
-            drop(take_step(core, Action::Leave(sender), memory_refused)?);
+            drop(take_core_step(core, Action::Leave(sender), memory_refused)?);
             Ok(Shown::Answer(answer))
         }
         Outcome::Closed => {
-            drop(take_step(core, Action::Leave(sender), memory_refused)?);
+            drop(take_core_step(core, Action::Leave(sender), memory_refused)?);
             Ok(Shown::Answer(Outcome::Closed))
         }
         Outcome::Moved => {
-            drop(take_step(core, Action::Leave(sender), memory_refused)?);
+            drop(take_core_step(core, Action::Leave(sender), memory_refused)?);
             Ok(Shown::Moving)
         }
         entered => Ok(Shown::Answer(entered)),

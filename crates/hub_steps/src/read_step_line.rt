@@ -14,7 +14,7 @@ use hub_core::Action;
 use hub_envelope::{AgentId, Body, EndId, Items, LineId, Text};
 use hub_life::Event;
 use hub_origin::{OriginError, origin_of};
-use hub_text::{cut_at, number_of as number_up_to, read_ends, split_word};
+use hub_text::{number_of as number_up_to, read_ends, split_at_first_byte, split_word};
 use serde_json::Value;
 use std::alloc::Global;
 
@@ -60,7 +60,7 @@ pub fn read_step_line(alloc: Global, bytes: &[u8]) -> Result<StepLine, StepLineE
     let Ok(text) = str::from_utf8(bytes) else {
         return Err(StepLineError::BadUtf8);
     };
-    let (memory_refused, text) = marked(text);
+    let (memory_refused, text) = split_off_mark(text);
     let command = command_in(alloc, text)?;
     Ok(StepLine {
         command,
@@ -69,7 +69,7 @@ pub fn read_step_line(alloc: Global, bytes: &[u8]) -> Result<StepLine, StepLineE
 }
 
 /// Whether the mark `!` stands first, and what comes after it.
-fn marked(text: &str) -> (bool, &str)
+fn split_off_mark(text: &str) -> (bool, &str)
     ensures { (result.0, result.1.now) ≡ mark text.now }
 {
     match text.strip_prefix('!') {
@@ -166,7 +166,7 @@ fn rarer_command_of(
         → has_part (spelled step) ≡ true) }
 {
     match step {
-        RarerStep::Agent => Ok(Command::Agent(url_in(alloc, one_word(rest)?)?)),
+        RarerStep::Agent => Ok(Command::Agent(agent_url_in(alloc, one_word(rest)?)?)),
         RarerStep::Channel => Ok(Command::Step(Action::Channel(agent_after(rest)?))),
         RarerStep::Client => Ok(Command::Step(Action::Client(agent_after(rest)?))),
         RarerStep::Worker => Ok(Command::Worker(agent_after(rest)?)),
@@ -369,16 +369,16 @@ fn poster_in(word: &str) -> Result<PosterName, StepLineError>
 fn poster_named(word: &str) -> Option<PosterName>
     ensures { result ≡ poster_named word.now }
 {
-    let Some((end, line)) = cut_at(word, b'/') else {
+    let Some((end, line)) = split_at_first_byte(word, b'/') else {
         return Some(PosterName::Port(EndId(number_read(word)?)));
     };
     let end = EndId(number_read(end)?);
-    let line = line_read(number_read(line)?);
+    let line = line_of_number(number_read(line)?);
     Some(PosterName::Line(end, line))
 }
 
 /// No end has a line 255, so each number that names no line may be read as that one.
-fn line_read(number: u32) -> LineId
+fn line_of_number(number: u32) -> LineId
     ensures { result ≡ line_read number }
 {
     LineId(u8::try_from(number).unwrap_or(u8::MAX))
@@ -407,7 +407,7 @@ fn event_in(word: &str) -> Result<Event, StepLineError>
 
 /// The origin of a URL, or why it gives none.
 #[tactic(auto, unfolding(crate::specs::StepLine::url_read))]
-fn url_in(alloc: Global, word: &str) -> Result<AgentUrl, StepLineError>
+fn agent_url_in(alloc: Global, word: &str) -> Result<AgentUrl, StepLineError>
     ensures { IsReadAs StepLineError.OutOfMemory (λ x. x) result (word_read U word.now) }
 {
     if word == "-" {

@@ -20,12 +20,12 @@ ghost use Rattle.hub_steps.specs.declared.step_line.StepLine.{StepLine as Line};
 use crate::lives::Lives;
 use crate::perform::perform;
 use crate::read_step_line::read_step_line;
-use crate::short_text::{SHORT, short_text};
+use crate::short_text::{SHORT, write_shown_if_short};
 use crate::shown::Shown;
 use crate::step_line::{StepLine, StepLineError};
-use crate::text::write_shown;
+use crate::text::write_shown_outcome_line;
 use hub_core::{Core, OutOfMemory};
-use hub_engine::{CountedWriter, Device, ExitStatus, PIECE, end_out_of_memory, write_kept};
+use hub_engine::{CountedWriter, Device, ExitStatus, PIECE, write_kept, write_out_of_memory};
 use hub_text::split_text_line;
 use std::alloc::Global;
 use std::io::Write;
@@ -76,7 +76,10 @@ pub struct HeldBack<'a> {
 /// which a bad text line comes later are never written. It stops where `MAX_HELD` bytes are kept,
 /// and where memory runs out at a step line. An error is that of the first bad text line, by its
 /// number from 1.
-pub fn run_held<'a>(alloc: Global, input: &'a [u8]) -> Result<HeldBack<'a>, (usize, StepLineError)>
+pub fn run_with_output_held<'a>(
+    alloc: Global,
+    input: &'a [u8],
+) -> Result<HeldBack<'a>, (usize, StepLineError)>
     ensures held { IfOk result (λ held. IsHeld input.now held) }
     ensures room { IfOk result (λ held. held.number + length held.rest.now ≤ length input.now) }
     ensures err { IfErr result (λ e. (e.1 ≡ StepLineError.OutOfMemory)
@@ -91,7 +94,7 @@ pub fn run_held<'a>(alloc: Global, input: &'a [u8]) -> Result<HeldBack<'a>, (usi
             Ok(line) => line,
             Err(error) => return Err((number + 1, error)),
         };
-        if run.answer(alloc, line).is_err() {
+        if run.run_and_keep_outcome(alloc, line).is_err() {
             return Ok(HeldBack {
                 run,
                 number,
@@ -127,7 +130,7 @@ impl StepRun {
     /// first. An `Err` keeps nothing.
     // It is inlined, since a call copies the step line.
     #[inline(always)]
-    fn answer(&mut self, alloc: Global, line: StepLine) -> Result<(), OutOfMemory>
+    fn run_and_keep_outcome(&mut self, alloc: Global, line: StepLine) -> Result<(), OutOfMemory>
         ensures ok { OnOk result ((shown : WhatIsShown)
             × PerformsAt self.old.core self.new.core self.old.lives line shown
             × (self.new.lives ≡ lives_after line.command shown self.old.lives)
@@ -135,12 +138,12 @@ impl StepRun {
         ensures err { OnErr result (self.new.kept.items ≡ self.old.kept.items) }
     {
         let shown = perform(alloc, &mut self.core, &mut self.lives, line)?;
-        self.keep(&shown)
+        self.keep_outcome_line(&shown)
     }
 
     /// Keeps the outcome line of what a step line shows. An `Err` keeps nothing.
     #[inline(always)]
-    pub fn keep(&mut self, shown: &Shown) -> Result<(), OutOfMemory>
+    pub fn keep_outcome_line(&mut self, shown: &Shown) -> Result<(), OutOfMemory>
         ensures ok { OnOk result
             (self.new.kept.items ≡ self.old.kept.items ++ shown_line shown.now) }
         ensures err { OnErr result (self.new.kept.items ≡ self.old.kept.items) }
@@ -148,12 +151,12 @@ impl StepRun {
         ensures lives { self.new.lives ≡ self.old.lives }
     {
         let mut bytes = [0; SHORT];
-        if let Some(start) = short_text(shown, &mut bytes) {
+        if let Some(start) = write_shown_if_short(shown, &mut bytes) {
             self.kept.extend_from_slice(&bytes[start..])?;
             return Ok(());
         }
         self.text.clear();
-        write_shown(&mut self.text, shown)?;
+        write_shown_outcome_line(&mut self.text, shown)?;
         self.kept.extend_from_slice(self.text.as_bytes())?;
         Ok(())
     }
@@ -179,10 +182,10 @@ impl StepRun {
         while !rest.is_empty() {
             let (bytes, after) = split_text_line(rest);
             let Ok(line) = read_step_line(alloc, bytes) else {
-                return self.cut_short(writer);
+                return self.finish_out_of_memory(writer);
             };
-            if self.answer(alloc, line).is_err() {
-                return self.cut_short(writer);
+            if self.run_and_keep_outcome(alloc, line).is_err() {
+                return self.finish_out_of_memory(writer);
             }
             rest = after;
             if self.kept.len() >= PIECE {
@@ -195,7 +198,7 @@ impl StepRun {
     }
 
     /// Ends where memory ran out: the outcome lines so far are followed by `out of memory`.
-    pub fn cut_short<W: Write>(
+    pub fn finish_out_of_memory<W: Write>(
         &mut self,
         writer: &mut CountedWriter<W>,
     ) -> Result<ExitStatus, Device>
@@ -211,6 +214,6 @@ impl StepRun {
             (flushes_made writer.new) }
     {
         write_kept(writer, &mut self.kept)?;
-        end_out_of_memory(writer)
+        write_out_of_memory(writer)
     }
 }

@@ -102,7 +102,7 @@ impl Session {
         }
         match read_step_line(alloc, bytes) {
             Ok(line) => self.run_step_line(alloc, line),
-            Err(error) => self.refuse(error),
+            Err(error) => self.answer_read_error(error),
         }
     }
 
@@ -124,7 +124,7 @@ impl Session {
         match perform(alloc, &mut self.run.core, &mut self.run.lives, line) {
             Ok(shown) => {
                 self.last = Last::Untold(shown);
-                match self.write_untold() {
+                match self.write_untold_outcome() {
                     Ok(()) => Reply::Ran,
                     Err(OutOfMemory) => Reply::RanUntold,
                 }
@@ -138,7 +138,7 @@ impl Session {
     }
 
     /// Answers a text line that is no step line, or that found no memory while it was read.
-    fn refuse(&mut self, error: StepLineError) -> Reply
+    fn answer_read_error(&mut self, error: StepLineError) -> Reply
         requires { self.old.is_lost ≡ false }
         ensures bad { result ≡ reply.Bad → (is_told self.new ≡ true)
             × (step_kind_text error ≡ Some (told self.new)) }
@@ -159,7 +159,7 @@ impl Session {
 
     /// Makes the outcome line that found no memory when its step line was run. An `Err` leaves
     /// it to be made later.
-    pub fn write_untold(&mut self) -> Result<(), OutOfMemory>
+    pub fn write_untold_outcome(&mut self) -> Result<(), OutOfMemory>
         ensures ok { OnOk result (is_told self.new ≡ true) }
         ensures err { OnErr result ((is_told self.old ≡ false) × (is_told self.new ≡ false)) }
         ensures stays { Stays self.old self.new }
@@ -167,7 +167,7 @@ impl Session {
     {
         if let Last::Untold(shown) = &self.last {
             self.run.kept.clear();
-            self.run.keep(shown)?;
+            self.run.keep_outcome_line(shown)?;
             self.last = Last::Kept;
         }
         Ok(())
@@ -175,7 +175,7 @@ impl Session {
 
     /// What the last text line was answered with that was run or bad: an outcome line with its
     /// LF, or the name of the first test that a bad line fails. `None` where the outcome line
-    /// found no memory yet: see `write_untold`.
+    /// found no memory yet: see `write_untold_outcome`.
     pub fn said(&self) -> Option<&[u8]>
         ensures said { IfSome result (λ text. text.now ≡ told self.now) }
         ensures exactly { is_some result ≡ is_told self.now }

@@ -20,35 +20,35 @@ const SHORT_BODY: usize = 40;
 // Most outcome lines are these two. Written from the last byte to the first, such a line takes one
 // test for room where a format makes one for each piece.
 #[tactic(auto, unfolding(crate::specs::ShownText::shown_line))]
-pub fn short_text(shown: &Shown, line: &mut [u8; SHORT]) -> Option<usize>
+pub fn write_shown_if_short(shown: &Shown, line: &mut [u8; SHORT]) -> Option<usize>
     ensures { IfSome result (λ start. (start ≤ 128)
         × (drop start line.new ≡ shown_line shown.now)) }
 {
     match shown {
-        Shown::Answer(outcome) => short_outcome(outcome, line),
+        Shown::Answer(outcome) => write_outcome_if_short(outcome, line),
         _ => None,
     }
 }
 
 /// The same of an outcome.
 #[tactic(auto, unfolding(crate::specs::OutcomeText::outcome_line))]
-fn short_outcome(outcome: &Outcome, line: &mut [u8; SHORT]) -> Option<usize>
+fn write_outcome_if_short(outcome: &Outcome, line: &mut [u8; SHORT]) -> Option<usize>
     ensures { IfSome result (λ start. (start ≤ 128)
         × (drop start line.new ≡ outcome_line outcome.now)) }
 {
     match outcome {
         Outcome::Accepted(name) => {
-            let at = put_line_feed(line);
-            let at = put_pair_before(line, at, name.epoch, name.number);
-            Some(put_before(line, at, b"accepted "))
+            let at = write_line_feed_last(line);
+            let at = prepend_epoch_and_number(line, at, name.epoch, name.number);
+            Some(prepend_text(line, at, b"accepted "))
         }
-        Outcome::Got(envelope) => short_delivery(envelope, line),
+        Outcome::Got(envelope) => write_delivery_if_short(envelope, line),
         _ => None,
     }
 }
 
 /// The same of a delivery.
-fn short_delivery(envelope: &Envelope, line: &mut [u8; SHORT]) -> Option<usize>
+fn write_delivery_if_short(envelope: &Envelope, line: &mut [u8; SHORT]) -> Option<usize>
     ensures { IfSome result (λ start. (start ≤ 128)
         × (drop start line.new ≡ got_line envelope.now)) }
 {
@@ -56,61 +56,67 @@ fn short_delivery(envelope: &Envelope, line: &mut [u8; SHORT]) -> Option<usize>
     if envelope.notice || !envelope.ports.as_slice().is_empty() || body.len() > SHORT_BODY {
         return None;
     }
-    Some(put_delivery(line, envelope.epoch, envelope.number, envelope.line.0, body))
+    Some(write_delivery_line(line, envelope.epoch, envelope.number, envelope.line.0, body))
 }
 
 /// Writes the outcome line of a delivery with no ports to the end of the array. Where it begins.
-fn put_delivery(line: &mut [u8; SHORT], epoch: u32, number: u64, from: u8, body: &[u8]) -> usize
+fn write_delivery_line(
+    line: &mut [u8; SHORT],
+    epoch: u32,
+    number: u64,
+    from: u8,
+    body: &[u8],
+) -> usize
     requires { length body.now ≤ 40 }
     ensures start { result ≤ 128 }
     ensures written { drop result line.new ≡ codes "got " ++ decimal epoch ++ codes ":"
         ++ decimal number ++ codes " from " ++ decimal from ++ codes " " ++ body.now
         ++ codes "\n" }
 {
-    let at = put_body(line, from, body);
-    let at = put_pair_before(line, at, epoch, number);
-    put_before(line, at, b"got ")
+    let at = write_sender_and_body(line, from, body);
+    let at = prepend_epoch_and_number(line, at, epoch, number);
+    prepend_text(line, at, b"got ")
 }
 
 /// Writes what stands in that line behind the name. Where it begins.
 #[inline(always)]
-fn put_body(line: &mut [u8; SHORT], from: u8, body: &[u8]) -> usize
+fn write_sender_and_body(line: &mut [u8; SHORT], from: u8, body: &[u8]) -> usize
     requires { length body.now ≤ 40 }
     ensures start { (result ≤ 128) × (128 ≤ result + 68) }
     ensures written { drop result line.new ≡ codes " from " ++ decimal from ++ codes " "
         ++ body.now ++ codes "\n" }
 {
-    let at = put_line_feed(line);
-    let at = put_before(line, at, body);
-    let at = put_before(line, at, b" ");
-    let at = put_number_before(line, at, u64::from(from));
-    put_before(line, at, b" from ")
+    let at = write_line_feed_last(line);
+    let at = prepend_text(line, at, body);
+    let at = prepend_text(line, at, b" ");
+    let at = prepend_number(line, at, u64::from(from));
+    prepend_text(line, at, b" from ")
 }
 
 /// Writes the LF, which comes last.
 #[inline(always)]
-fn put_line_feed(line: &mut [u8; SHORT]) -> usize
+fn write_line_feed_last(line: &mut [u8; SHORT]) -> usize
     ensures start { result ≡ 127 }
     ensures written { drop result line.new ≡ codes "\n" }
 {
-    put_before(line, SHORT, b"\n")
+    prepend_text(line, SHORT, b"\n")
 }
 
 /// Writes the numbers of a queue and of an envelope in it, before what stands at `end`.
-fn put_pair_before(line: &mut [u8], end: usize, epoch: u32, number: u64) -> usize
+fn prepend_epoch_and_number(line: &mut [u8], end: usize, epoch: u32, number: u64) -> usize
     requires { (41 ≤ end) × (end ≤ length line.old) }
     ensures start { (result ≤ end) × (end ≤ result + 41) }
     ensures written { drop result line.new
         ≡ decimal epoch ++ codes ":" ++ decimal number ++ drop end line.old }
 {
-    let at = put_number_before(line, end, number);
-    let at = put_before(line, at, b":");
-    put_number_before(line, at, u64::from(epoch))
+    let at = prepend_number(line, end, number);
+    let at = prepend_text(line, at, b":");
+    prepend_number(line, at, u64::from(epoch))
 }
 
 /// Writes a number before what stands at `end`. Where it begins.
 #[inline(always)]
-fn put_number_before(line: &mut [u8], end: usize, number: u64) -> usize
+fn prepend_number(line: &mut [u8], end: usize, number: u64) -> usize
     requires { (20 ≤ end) × (end ≤ length line.old) }
     ensures start { (result ≤ end) × (end ≤ result + 20) }
     ensures written { drop result line.new ≡ decimal number ++ drop end line.old }
@@ -120,7 +126,7 @@ fn put_number_before(line: &mut [u8], end: usize, number: u64) -> usize
 
 /// Writes a text before what stands at `end`. Where it begins.
 #[inline(always)]
-fn put_before(line: &mut [u8], end: usize, text: &[u8]) -> usize
+fn prepend_text(line: &mut [u8], end: usize, text: &[u8]) -> usize
     requires { (length text.now ≤ end) × (end ≤ length line.old) }
     ensures start { result + length text.now ≡ end }
     ensures written { drop result line.new ≡ text.now ++ drop end line.old }

@@ -6,7 +6,7 @@ ghost use Rattle.hub_steps.specs.Performed.{ComputesAt};
 ghost use Rattle.hub_steps.specs.Unfolding.{adopt, agent, agent_lives, lives_after, load};
 ghost use Rattle.hub_steps.specs.Unfolding.{shown_step, start_worker_queue, then_start};
 
-use crate::entering::{show_step, take_step};
+use crate::entering::{take_core_step, take_step_and_show};
 use crate::lives::Lives;
 use crate::shown::Shown;
 use crate::step_line::{AgentUrl, Command};
@@ -48,7 +48,7 @@ fn add_agent(
 {
     // Its life finds room first, so that no agent is made without one.
     lives.add_agent()?;
-    match take_step(core, Action::Agent(origin), memory_refused) {
+    match take_core_step(core, Action::Agent(origin), memory_refused) {
         Ok(Outcome::Agent(agent)) => Ok(Shown::Answer(Outcome::Agent(agent))),
         Ok(refused) => {
             lives.remove_agent();
@@ -62,13 +62,17 @@ fn add_agent(
 }
 
 /// Takes a step that makes a queue, and starts the queue that it made.
-fn then_start(core: &mut Core, action: Action, memory_refused: bool) -> Result<Outcome, OutOfMemory>
+fn make_and_start_queue(
+    core: &mut Core,
+    action: Action,
+    memory_refused: bool,
+) -> Result<Outcome, OutOfMemory>
     ensures { IfOk result (λ answer. ComputesAt core.old core.new
         (then_start memory_refused action) (Shown.Answer answer)) }
 {
-    match take_step(core, action, memory_refused)? {
+    match take_core_step(core, action, memory_refused)? {
         Outcome::End(end) => {
-            take_step(core, Action::Start(end), memory_refused)?;
+            take_core_step(core, Action::Start(end), memory_refused)?;
             Ok(Outcome::End(end))
         }
         answer => Ok(answer),
@@ -87,9 +91,9 @@ pub fn make_worker_queue(
     ensures lives { IfOk result (λ shown.
         lives.new ≡ lives_after (Command.Worker agent) shown lives.old) }
 {
-    let answer = then_start(core, Action::Worker(agent), memory_refused)?;
+    let answer = make_and_start_queue(core, Action::Worker(agent), memory_refused)?;
     if matches!(answer, Outcome::End(_)) {
-        lives.begin(agent);
+        lives.begin_life(agent);
     }
     Ok(Shown::Answer(answer))
 }
@@ -104,7 +108,7 @@ pub fn make_member(
     ensures { IfOk result (λ shown. ComputesAt core.old core.new
         (then_start memory_refused (Action.Member agent name)) shown) }
 {
-    let answer = then_start(core, Action::Member(agent, name), memory_refused)?;
+    let answer = make_and_start_queue(core, Action::Member(agent, name), memory_refused)?;
     Ok(Shown::Answer(answer))
 }
 
@@ -118,7 +122,7 @@ pub fn adopt(
     ensures { IfOk result (λ shown.
         ComputesAt core.old core.new (adopt memory_refused end agent) shown) }
 {
-    match take_step(core, Action::Adopt(end, agent), memory_refused)? {
+    match take_core_step(core, Action::Adopt(end, agent), memory_refused)? {
         Outcome::Adopted(queue) => {
             start_worker_queue(core, end, memory_refused)?;
             Ok(Shown::Answer(Outcome::Adopted(queue)))
@@ -129,10 +133,11 @@ pub fn adopt(
 
 /// Starts a worker's queue. Of any other end no step is taken.
 fn start_worker_queue(core: &mut Core, end: EndId, memory_refused: bool) -> Result<(), OutOfMemory>
-    ensures { OnOk result (ComputesAt core.old core.new (start_worker_queue memory_refused end) tt) }
+    ensures { OnOk result (ComputesAt core.old core.new
+        (start_worker_queue memory_refused end) tt) }
 {
     if matches!(core.kind_of(end), Some(Kind::Worker)) {
-        take_step(core, Action::Start(end), memory_refused)?;
+        take_core_step(core, Action::Start(end), memory_refused)?;
         Ok(())
     } else {
         Ok(())
@@ -140,13 +145,17 @@ fn start_worker_queue(core: &mut Core, end: EndId, memory_refused: bool) -> Resu
 }
 
 /// Starts the queue of a client, whose document is parsed. Of any other end no step is taken.
-pub fn load(core: &mut Core, end: EndId, memory_refused: bool) -> Result<Shown, OutOfMemory>
+pub fn start_client_queue(
+    core: &mut Core,
+    end: EndId,
+    memory_refused: bool,
+) -> Result<Shown, OutOfMemory>
     ensures shown { IfOk result (λ shown.
         ComputesAt core.old core.new (load memory_refused end) shown) }
     ensures memory { IsOk result }
 {
     if matches!(core.kind_of(end), Some(Kind::Client)) {
-        show_step(core, Action::Start(end), memory_refused)
+        take_step_and_show(core, Action::Start(end), memory_refused)
     } else {
         Ok(Shown::Answer(Outcome::NotNow))
     }

@@ -15,7 +15,7 @@ use hub_text::EndListText;
 
 /// Writes the outcome line of what a step line shows, with its LF.
 #[tactic(auto, unfolding(crate::specs::ShownText::shown_line))]
-pub fn write_shown(text: &mut String, shown: &Shown) -> Result<(), OutOfMemory>
+pub fn write_shown_outcome_line(text: &mut String, shown: &Shown) -> Result<(), OutOfMemory>
     ensures { OnOk result (string_bytes text.new ≡ string_bytes text.old ++ shown_line shown.now) }
 {
     match shown {
@@ -27,8 +27,8 @@ pub fn write_shown(text: &mut String, shown: &Shown) -> Result<(), OutOfMemory>
         Shown::BadUrl => text.push_str("bad-url\n"),
         Shown::OpaqueOrigin => text.push_str("opaque-origin\n"),
         Shown::Cast(posts) => write_cast(text, posts.as_slice()),
-        Shown::State(state) => write_state(text, *state),
-        Shown::Refused(error) => text.push_str(refused_line(*error)),
+        Shown::State(state) => write_worker_state_line(text, *state),
+        Shown::Refused(error) => text.push_str(refused_event_line(*error)),
     }
 }
 
@@ -41,22 +41,22 @@ fn write_cast(text: &mut String, posts: &[CastPost]) -> Result<(), OutOfMemory>
         return text.push_str("cast nobody\n");
     }
     text.push_str("cast")?;
-    write_posts(text, posts)?;
+    write_cast_posts(text, posts)?;
     text.push_str("\n")
 }
 
-fn write_posts(text: &mut String, posts: &[CastPost]) -> Result<(), OutOfMemory>
+fn write_cast_posts(text: &mut String, posts: &[CastPost]) -> Result<(), OutOfMemory>
     ensures { OnOk result (string_bytes text.new
         ≡ string_bytes text.old ++ posts_text posts.now) }
 {
     for post in posts {
-        write_post(text, post)?;
+        write_cast_post(text, post)?;
     }
     Ok(())
 }
 
 /// Writes a space, the number of a destination, and what was answered there.
-fn write_post(text: &mut String, post: &CastPost) -> Result<(), OutOfMemory>
+fn write_cast_post(text: &mut String, post: &CastPost) -> Result<(), OutOfMemory>
     ensures { OnOk result (string_bytes text.new
         ≡ string_bytes text.old ++ post_text post.now) }
 {
@@ -73,15 +73,15 @@ fn write_post(text: &mut String, post: &CastPost) -> Result<(), OutOfMemory>
 
 /// Writes the line of a worker's state.
 #[tactic(auto, unfolding(crate::specs::ShownText::shown_line))]
-fn write_state(text: &mut String, state: State) -> Result<(), OutOfMemory>
+fn write_worker_state_line(text: &mut String, state: State) -> Result<(), OutOfMemory>
     ensures { OnOk result (string_bytes text.new
         ≡ string_bytes text.old ++ shown_line (Shown.State state)) }
 {
-    let word = state_text(state);
+    let word = worker_state_text(state);
     writeln!(text, "state {word}")
 }
 
-fn state_text(state: State) -> &'static str
+fn worker_state_text(state: State) -> &'static str
     ensures { result.now ≡ state_text state }
 {
     match state {
@@ -95,7 +95,7 @@ fn state_text(state: State) -> &'static str
 }
 
 /// The line of an event that a life refused.
-fn refused_line(error: LifeError) -> &'static str
+fn refused_event_line(error: LifeError) -> &'static str
     ensures { result.now ≡ refused_line error }
 {
     match error {
@@ -145,7 +145,7 @@ fn write_outcome(text: &mut String, outcome: &Outcome) -> Result<(), OutOfMemory
         Outcome::Handed => text.push_str("handed\n"),
         Outcome::Ordered => text.push_str("ordered\n"),
         Outcome::GoingOn => text.push_str("going-on\n"),
-        Outcome::Ending(ends) => write_ending(text, ends.as_slice()),
+        Outcome::Ending(ends) => write_ending_agent_line(text, ends.as_slice()),
         // A cast is shown by what its destinations answer, and never by these alone.
         Outcome::Destinations(_) => text.push_str("cast\n"),
         Outcome::Discarded(envelopes) => write_discarded(text, envelopes.as_slice()),
@@ -153,7 +153,7 @@ fn write_outcome(text: &mut String, outcome: &Outcome) -> Result<(), OutOfMemory
 }
 
 /// Writes the line of the ends of an agent that ends.
-fn write_ending(text: &mut String, ends: &[EndId]) -> Result<(), OutOfMemory>
+fn write_ending_agent_line(text: &mut String, ends: &[EndId]) -> Result<(), OutOfMemory>
     ensures { OnOk result (string_bytes text.new
         ≡ string_bytes text.old ++ ending_line ends.now) }
 {
@@ -161,12 +161,12 @@ fn write_ending(text: &mut String, ends: &[EndId]) -> Result<(), OutOfMemory>
         return text.push_str("ending nothing\n");
     }
     text.push_str("ending")?;
-    write_numbers(text, ends)?;
+    write_end_numbers(text, ends)?;
     text.push_str("\n")
 }
 
 /// Writes a space and the number of each end.
-fn write_numbers(text: &mut String, ends: &[EndId]) -> Result<(), OutOfMemory>
+fn write_end_numbers(text: &mut String, ends: &[EndId]) -> Result<(), OutOfMemory>
     ensures { OnOk result (string_bytes text.new
         ≡ string_bytes text.old ++ numbers_text ends.now) }
 {
@@ -202,22 +202,22 @@ fn write_discarded(text: &mut String, envelopes: &[Envelope]) -> Result<(), OutO
         return text.push_str("discarded nothing\n");
     }
     text.push_str("discarded")?;
-    write_names(text, envelopes)?;
+    write_envelope_names(text, envelopes)?;
     text.push_str("\n")
 }
 
 /// Writes a space, the name and the line of each envelope.
-fn write_names(text: &mut String, envelopes: &[Envelope]) -> Result<(), OutOfMemory>
+fn write_envelope_names(text: &mut String, envelopes: &[Envelope]) -> Result<(), OutOfMemory>
     ensures { OnOk result (string_bytes text.new
         ≡ string_bytes text.old ++ names_text envelopes.now) }
 {
     for envelope in envelopes {
-        write_name(text, envelope)?;
+        write_envelope_name(text, envelope)?;
     }
     Ok(())
 }
 
-fn write_name(text: &mut String, envelope: &Envelope) -> Result<(), OutOfMemory>
+fn write_envelope_name(text: &mut String, envelope: &Envelope) -> Result<(), OutOfMemory>
     ensures { OnOk result (string_bytes text.new
         ≡ string_bytes text.old ++ listed_name envelope.now) }
 {

@@ -51,7 +51,7 @@ impl Takes for Member {
 fn begin_and_take<L: Ledger, T: Takes, R: Wait>(rt: &R, end: &mut T, blank: Blank) -> Took
     requires { (blank.name ≡ L.name) × (blank.parts ≡ L.parts) × (L.parts ≡ 2) }
 {
-    let mut steps = Steps::<L>::begin(blank);
+    let mut steps = Steps::<L>::new_at_zero(blank);
     end.take_counted(rt, &mut steps)
 }
 
@@ -68,7 +68,7 @@ fn begin_and_turn<L: Ledger, H: Handler + Drop, C: Checkpoint + Drop, R: Wait>(
 ) -> Result<Turn, LoopError>
     requires { (blank.name ≡ L.name) × (blank.parts ≡ L.parts) × (L.parts ≡ 2) }
 {
-    let mut steps = Steps::<L>::begin(blank);
+    let mut steps = Steps::<L>::new_at_zero(blank);
     event_loop.turn(rt, hub, &mut steps)
 }
 

@@ -25,10 +25,10 @@ fn first(alloc: Global) -> Result<Log, Refused> {
         return Err(Refused::Wrong);
     }
     let mut log = Log::new(alloc, AgentId(3));
-    let payload = Payload::copy_of(alloc, &ports, &body(alloc)?)?;
-    log.put(POSTED, Content::Payload(payload))?;
-    log.put(POSTED, Content::Notice)?;
-    log.closed(EndId(2))?;
+    let payload = Payload::copy_of_parts(alloc, &ports, &body(alloc)?)?;
+    log.record_put(POSTED, Content::Payload(payload))?;
+    log.record_put(POSTED, Content::Notice)?;
+    log.record_closed(EndId(2))?;
     Ok(log)
 }
 
@@ -38,10 +38,10 @@ fn second(alloc: Global) -> Result<Log, Refused> {
         return Err(Refused::Wrong);
     }
     let mut log = Log::new(alloc, AgentId(15));
-    log.adopted(EndId(9), 1)?;
-    let payload = Payload::copy_of(alloc, &[], &body(alloc)?)?;
-    log.got(POSTED, Content::Payload(payload))?;
-    log.got(POSTED, Content::Notice)?;
+    log.record_adopted(EndId(9), 1)?;
+    let payload = Payload::copy_of_parts(alloc, &[], &body(alloc)?)?;
+    log.record_got(POSTED, Content::Payload(payload))?;
+    log.record_got(POSTED, Content::Notice)?;
     Ok(log)
 }
 

@@ -82,18 +82,18 @@ fn append(alloc: Global, log: &mut Log, step: u32) -> Result<(), Refused> {
     }
     let body = Body::read(alloc, "[1,{\"a\":null,\"b\":[]}]")?;
     match step % 6 {
-        0 => log.put(
+        0 => log.record_put(
             posted,
-            Content::Payload(Payload::copy_of(alloc, &ports, &body)?),
+            Content::Payload(Payload::copy_of_parts(alloc, &ports, &body)?),
         )?,
-        1 => log.got(
+        1 => log.record_got(
             posted,
-            Content::Payload(Payload::copy_of(alloc, &ports, &body)?),
+            Content::Payload(Payload::copy_of_parts(alloc, &ports, &body)?),
         )?,
-        2 => log.adopted(EndId(5), 1)?,
-        3 => log.put(noticed, Content::Notice)?,
-        4 => log.got(noticed, Content::Notice)?,
-        _ => log.closed(closed)?,
+        2 => log.record_adopted(EndId(5), 1)?,
+        3 => log.record_put(noticed, Content::Notice)?,
+        4 => log.record_got(noticed, Content::Notice)?,
+        _ => log.record_closed(closed)?,
     }
     Ok(())
 }

@@ -13,10 +13,10 @@ ghost use Rattle.hub_trace.specs.declared.verdict.Verdict.TheVariants.{Clean};
 ghost use Rattle.hub_trace.specs.Views.{RisesByLine, accepted_in, delivery_of, got_among};
 ghost use Rattle.hub_trace.specs.Views.{receipt_of};
 
-use crate::accepted::{AcceptedEnvelope, accepted_in_order, accepted_of};
+use crate::accepted::{AcceptedEnvelope, accepted_of_line, all_accepted_sorted};
 use crate::log::Log;
-use crate::log_entry::has_name_of;
-use crate::received::{Incoming, arrivals_in_order, front_of_line};
+use crate::log_entry::has_same_name_as;
+use crate::received::{Incoming, arrivals_in_order, arrivals_of_first_line};
 use crate::verdict::{FaultKind, Verdict};
 use hub_envelope::{OutOfMemory, Posted};
 use std::alloc::Global;
@@ -29,7 +29,7 @@ pub fn check(alloc: Global, logs: &[Log]) -> Result<Verdict, OutOfMemory>
     ensures verdict { IfOk result
         (λ verdict. IsVerdict (accepted logs.now) (got logs.now) verdict) }
 {
-    let accepted = accepted_in_order(alloc, logs)?;
+    let accepted = all_accepted_sorted(alloc, logs)?;
     let arrivals = arrivals_in_order(alloc, logs)?;
     Ok(first_fault(&accepted, &arrivals))
 }
@@ -44,9 +44,9 @@ fn first_fault(accepted: &[AcceptedEnvelope<'_>], arrivals: &[Incoming<'_>]) -> 
     while let Some(first) = rest.first() {
         let end = first.posted.end;
         let line = first.posted.line;
-        let put = accepted_of(accepted, end, line);
-        let got = front_of_line(rest, end, line);
-        if let Some((place, kind)) = fault_of_line(put, got) {
+        let put = accepted_of_line(accepted, end, line);
+        let got = arrivals_of_first_line(rest, end, line);
+        if let Some((place, kind)) = first_fault_of_sender_line(put, got) {
             return Verdict::Fault {
                 end,
                 line,
@@ -60,7 +60,7 @@ fn first_fault(accepted: &[AcceptedEnvelope<'_>], arrivals: &[Incoming<'_>]) -> 
 }
 
 /// The first fault in what was got of one line.
-fn fault_of_line(
+fn first_fault_of_sender_line(
     accepted: &[AcceptedEnvelope<'_>],
     got: &[Incoming<'_>],
 ) -> Option<(usize, FaultKind)>
@@ -71,8 +71,8 @@ fn fault_of_line(
 {
     let mut noticed = false;
     for (place, arrival) in got.iter().enumerate() {
-        if !is_right(accepted, noticed, place, arrival) {
-            let kind = kind_of(accepted, &got[..place], noticed, arrival);
+        if !is_arrival_right(accepted, noticed, place, arrival) {
+            let kind = fault_kind_of(accepted, &got[..place], noticed, arrival);
             return Some((place, kind));
         }
         // What is right has no notice before it.
@@ -83,7 +83,7 @@ fn fault_of_line(
 
 /// Whether the arrival came in time and is what was accepted at its place. `noticed` says whether a
 /// notice of the line was got before.
-fn is_right(
+fn is_arrival_right(
     accepted: &[AcceptedEnvelope<'_>],
     noticed: bool,
     place: usize,
@@ -104,7 +104,7 @@ fn is_right(
 }
 
 /// What is wrong with an arrival that isn't right. The earlier ones of its line are all before it.
-fn kind_of(
+fn fault_kind_of(
     accepted: &[AcceptedEnvelope<'_>],
     earlier: &[Incoming<'_>],
     noticed: bool,
@@ -120,40 +120,40 @@ fn kind_of(
     if noticed {
         return FaultKind::AfterNotice;
     }
-    if is_named_at(accepted, earlier.len(), &arrival.posted) {
+    if is_name_at_place(accepted, earlier.len(), &arrival.posted) {
         return FaultKind::Changed;
     }
-    if is_among_got(earlier, &arrival.posted) {
+    if is_name_among_got(earlier, &arrival.posted) {
         return FaultKind::Twice;
     }
-    if is_among_accepted(accepted, &arrival.posted) {
+    if is_name_among_accepted(accepted, &arrival.posted) {
         return FaultKind::Gap;
     }
     FaultKind::Foreign
 }
 
 /// Whether the accepted envelope at the place has this name.
-fn is_named_at(accepted: &[AcceptedEnvelope<'_>], place: usize, posted: &Posted) -> bool
+fn is_name_at_place(accepted: &[AcceptedEnvelope<'_>], place: usize, posted: &Posted) -> bool
     ensures { result ≡ names_delivery (slice_get (map delivery_of accepted.now) place) posted.now }
 {
     match accepted.get(place) {
-        Some(expected) => has_name_of(&expected.posted, posted),
+        Some(expected) => has_same_name_as(&expected.posted, posted),
         None => false,
     }
 }
 
 /// Whether an accepted envelope has this name.
-fn is_among_accepted(accepted: &[AcceptedEnvelope<'_>], posted: &Posted) -> bool
+fn is_name_among_accepted(accepted: &[AcceptedEnvelope<'_>], posted: &Posted) -> bool
     ensures { result
         ≡ list_any (λ d. is_name_of d.posted posted.now) (map delivery_of accepted.now) }
 {
-    accepted.iter().any(|a| has_name_of(&a.posted, posted))
+    accepted.iter().any(|a| has_same_name_as(&a.posted, posted))
 }
 
 /// Whether an envelope that was got has this name.
-fn is_among_got(got: &[Incoming<'_>], posted: &Posted) -> bool
+fn is_name_among_got(got: &[Incoming<'_>], posted: &Posted) -> bool
     ensures { result
         ≡ list_any (λ r. is_name_of r.delivery.posted posted.now) (map receipt_of got.now) }
 {
-    got.iter().any(|a| has_name_of(&a.posted, posted))
+    got.iter().any(|a| has_same_name_as(&a.posted, posted))
 }

@@ -7,7 +7,7 @@ ghost use Rattle.hub_trace.specs.Deliveries.{delivered_line_text, DeliveriesAreO
 ghost use Rattle.hub_trace.specs.Views.{RisesByLine, got_among};
 
 use crate::log::Log;
-use crate::received::{Incoming, arrivals_in_order, front_of_line};
+use crate::received::{Incoming, arrivals_in_order, arrivals_of_first_line};
 use hub_envelope::{EndId, LineId, OutOfMemory, Posted};
 use std::alloc::Global;
 use std::fmt;
@@ -49,11 +49,11 @@ pub fn deliveries(alloc: Global, logs: &[Log]) -> Result<Vec<DeliveredLine>, Out
     ensures { IfOk result (λ lines. AreDeliveries logs.now lines.items) }
 {
     let arrivals = arrivals_in_order(alloc, logs)?;
-    delivered_lines(alloc, &arrivals)
+    deliveries_by_line(alloc, &arrivals)
 }
 
 /// The lines of the arrivals.
-fn delivered_lines(
+fn deliveries_by_line(
     alloc: Global,
     arrivals: &[Incoming<'_>],
 ) -> Result<Vec<DeliveredLine>, OutOfMemory>
@@ -68,8 +68,8 @@ fn delivered_lines(
     while let Some(first) = rest.first() {
         let end = first.posted.end;
         let line = first.posted.line;
-        let got = front_of_line(rest, end, line);
-        let names = names_of(alloc, got)?;
+        let got = arrivals_of_first_line(rest, end, line);
+        let names = names_of_arrivals(alloc, got)?;
         lines.push(DeliveredLine { end, line, names })?;
         rest = &rest[got.len()..];
     }
@@ -77,7 +77,7 @@ fn delivered_lines(
 }
 
 /// The names of the arrivals.
-fn names_of(alloc: Global, arrivals: &[Incoming<'_>]) -> Result<Vec<Posted>, OutOfMemory>
+fn names_of_arrivals(alloc: Global, arrivals: &[Incoming<'_>]) -> Result<Vec<Posted>, OutOfMemory>
     ensures { IfOk result (λ names. names.items ≡ map (λ a. a.posted) arrivals.now) }
 {
     Ok(arrivals.iter().map(|a| a.posted).collect(alloc)?)

@@ -23,9 +23,9 @@ pub const LOG_HEADER: &str = "hublog 3";
 ///
 /// ```rust
 /// let mut log = Log::new(alloc, AgentId(0));
-/// let payload = Payload::copy_of(alloc, &[], &envelope.body)?;
-/// log.put(Posted::of(&envelope), Content::Payload(payload))?;
-/// log.closed(EndId(2))?;
+/// let payload = Payload::copy_of_parts(alloc, &[], &envelope.body)?;
+/// log.record_put(Posted::of(&envelope), Content::Payload(payload))?;
+/// log.record_closed(EndId(2))?;
 /// let verdict = check(alloc, &[log])?;
 /// ```
 #[derive(Debug, Drop)]
@@ -91,47 +91,47 @@ impl Log {
 
     /// Logs that the agent put it under the name: a post that was accepted, or a notice. An `Err`
     /// changes nothing.
-    pub fn put(&mut self, posted: Posted, content: Content) -> Result<(), OutOfMemory>
+    pub fn record_put(&mut self, posted: Posted, content: Content) -> Result<(), OutOfMemory>
         requires { IsPostedWithin Third posted }
         ensures ok { OnOk result (self.new ≡ log_with self.old (Put (delivery_at posted content))) }
         ensures err { OnErr result (self.new ≡ self.old) }
     {
-        self.append(LogEntry::Put(Delivery { posted, content }))
+        self.append_entry(LogEntry::Put(Delivery { posted, content }))
     }
 
     /// Logs that the agent took it under the name: an envelope, or a notice. An `Err` changes
     /// nothing.
-    pub fn got(&mut self, posted: Posted, content: Content) -> Result<(), OutOfMemory>
+    pub fn record_got(&mut self, posted: Posted, content: Content) -> Result<(), OutOfMemory>
         requires { IsPostedWithin Third posted }
         ensures ok { OnOk result (self.new ≡ log_with self.old (Got (delivery_at posted content))) }
         ensures err { OnErr result (self.new ≡ self.old) }
     {
-        self.append(LogEntry::Got(Delivery { posted, content }))
+        self.append_entry(LogEntry::Got(Delivery { posted, content }))
     }
 
     /// Logs that the agent adopted the end, whose newest queue is now that of the epoch. An `Err`
     /// changes nothing.
-    pub fn adopted(&mut self, end: EndId, epoch: u32) -> Result<(), OutOfMemory>
+    pub fn record_adopted(&mut self, end: EndId, epoch: u32) -> Result<(), OutOfMemory>
         requires end { end.0 ≤ MAX_END }
         requires epoch { epoch ≤ MAX_EPOCH }
         ensures ok { OnOk result (self.new ≡ log_with self.old (Adopted end epoch)) }
         ensures err { OnErr result (self.new ≡ self.old) }
     {
-        self.append(LogEntry::Adopted { end, epoch })
+        self.append_entry(LogEntry::Adopted { end, epoch })
     }
 
     /// Logs that the agent closed the end, which it did not log before. An `Err` changes nothing.
-    pub fn closed(&mut self, end: EndId) -> Result<(), OutOfMemory>
+    pub fn record_closed(&mut self, end: EndId) -> Result<(), OutOfMemory>
         requires end { end.0 ≤ MAX_END }
         requires first { is_closed_by self.old.1 end.0 ≡ false }
         ensures ok { OnOk result (self.new ≡ log_with self.old (Closed end)) }
         ensures err { OnErr result (self.new ≡ self.old) }
     {
-        self.append(LogEntry::Closed { end })
+        self.append_entry(LogEntry::Closed { end })
     }
 
     /// Adds an entry as the newest. An `Err` changes nothing.
-    pub(crate) fn append(&mut self, entry: LogEntry) -> Result<(), OutOfMemory>
+    pub(crate) fn append_entry(&mut self, entry: LogEntry) -> Result<(), OutOfMemory>
         requires within { IsEntryWithin Third entry }
         requires first { closes_one (is_closed_by self.old.1) entry ≡ false }
         ensures ok { OnOk result (self.new ≡ log_with self.old entry) }

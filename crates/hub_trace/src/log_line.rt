@@ -21,7 +21,7 @@ use crate::log_entry::{Delivery, LogEntry};
 use crate::log_version::LogVersion;
 use crate::payload::Payload;
 use hub_envelope::{AgentId, Body, BodyError, EndId, Items, LineId, Posted};
-use hub_text::{cut_at, number_of, read_ends, split_word};
+use hub_text::{number_of, read_ends, split_at_first_byte, split_word};
 use std::alloc::Global;
 
 /// What a log line below the header says.
@@ -59,12 +59,12 @@ fn log_line_in(alloc: Global, version: LogVersion, text: &str) -> Result<LogLine
         → log_reads_memory text.now ≡ true) }
 {
     let (name, rest) = first_word(text)?;
-    log_line_with(alloc, version, name, rest)
+    log_line_beginning_with(alloc, version, name, rest)
 }
 
 /// The log line that begins with the name. `rest` is what comes after the name and its space.
 #[tactic(auto, unfolding(crate::specs::LogLine::log_line_with))]
-fn log_line_with(
+fn log_line_beginning_with(
     alloc: Global,
     version: LogVersion,
     name: &str,
@@ -132,7 +132,7 @@ fn posted_in(version: LogVersion, end: &str, line: &str, name: &str) -> Result<P
         end: end_in(end)?,
         line: line_id_in(version, line)?,
         epoch: epoch_in(epoch)?,
-        number: number_in_logs(number, MAX_NUMBER)?,
+        number: number_in(number, MAX_NUMBER)?,
     })
 }
 
@@ -165,9 +165,9 @@ fn payload_in(
         (payload_in version list.now body.now) }
     ensures within { IfOk result (λ m. IsMessageWithin version m) }
 {
-    let ports = ports_in_logs(alloc, list)?;
+    let ports = ports_in(alloc, list)?;
     let body = body_in(alloc, version, body)?;
-    Ok(Payload::of(ports.into_list(), body))
+    Ok(Payload::of_parts(ports.into_list(), body))
 }
 
 /// The text up to the first space, and what comes after that.
@@ -189,13 +189,13 @@ fn name_parts(name: &str) -> Result<(&str, &str), LogError>
         (parts_in 58 name.now) }
     ensures memory { IfErr result (λ e. e ≢ LogError.OutOfMemory) }
 {
-    match cut_at(name, b':') {
+    match split_at_first_byte(name, b':') {
         Some(parts) => Ok(parts),
         None => Err(LogError::BadLine),
     }
 }
 
-fn number_in_logs(word: &str, max: u64) -> Result<u64, LogError>
+fn number_in(word: &str, max: u64) -> Result<u64, LogError>
     ensures says { IsReadAs LogError.OutOfMemory (λ x. x) result (number_in_logs max word.now) }
     ensures within { IfOk result (λ n. n ≤ max) }
     ensures memory { IfErr result (λ e. e ≢ LogError.OutOfMemory) }
@@ -211,7 +211,7 @@ fn agent_in(word: &str) -> Result<AgentId, LogError>
     ensures within { IfOk result (λ a. a.0 ≤ MAX_AGENT) }
     ensures memory { IfErr result (λ e. e ≢ LogError.OutOfMemory) }
 {
-    Ok(AgentId(number_in_logs(word, MAX_AGENT)? as u8))
+    Ok(AgentId(number_in(word, MAX_AGENT)? as u8))
 }
 
 fn end_in(word: &str) -> Result<EndId, LogError>
@@ -219,7 +219,7 @@ fn end_in(word: &str) -> Result<EndId, LogError>
     ensures within { IfOk result (λ e. e.0 ≤ MAX_END) }
     ensures memory { IfErr result (λ e. e ≢ LogError.OutOfMemory) }
 {
-    Ok(EndId(number_in_logs(word, MAX_END)? as u32))
+    Ok(EndId(number_in(word, MAX_END)? as u32))
 }
 
 fn line_id_in(version: LogVersion, word: &str) -> Result<LineId, LogError>
@@ -227,7 +227,7 @@ fn line_id_in(version: LogVersion, word: &str) -> Result<LineId, LogError>
     ensures within { IfOk result (λ l. l.0 ≤ max_line version) }
     ensures memory { IfErr result (λ e. e ≢ LogError.OutOfMemory) }
 {
-    Ok(LineId(number_in_logs(word, version.max_line())? as u8))
+    Ok(LineId(number_in(word, version.max_line_number())? as u8))
 }
 
 fn epoch_in(word: &str) -> Result<u32, LogError>
@@ -235,12 +235,12 @@ fn epoch_in(word: &str) -> Result<u32, LogError>
     ensures within { IfOk result (λ n. n ≤ MAX_EPOCH) }
     ensures memory { IfErr result (λ e. e ≢ LogError.OutOfMemory) }
 {
-    Ok(number_in_logs(word, MAX_EPOCH)? as u32)
+    Ok(number_in(word, MAX_EPOCH)? as u32)
 }
 
 /// `-`, or at most `MAX_PORTS` different ends joined by single commas.
 #[tactic(auto, unfolding(crate::specs::LogLine::ports_in_logs))]
-fn ports_in_logs(alloc: Global, list: &str) -> Result<Items<EndId>, LogError>
+fn ports_in(alloc: Global, list: &str) -> Result<Items<EndId>, LogError>
     ensures says { IsReadAs LogError.OutOfMemory (λ x. x) result (ports_in_logs list.now) }
     ensures within { IfOk result (λ ports. IsPortList ports) }
 {

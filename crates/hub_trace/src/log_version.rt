@@ -22,7 +22,7 @@ const SECOND_HEADER: &str = "hublog 2";
 
 impl LogVersion {
     /// The version that the first line of a file names.
-    pub(crate) fn of(header: &[u8]) -> Option<LogVersion>
+    pub(crate) fn of_header(header: &[u8]) -> Option<LogVersion>
         ensures { result ≡ version_of header.now }
     {
         if header == FIRST_HEADER.as_bytes() {
@@ -47,7 +47,7 @@ impl LogVersion {
     }
 
     /// The greatest number of a line of an end.
-    pub(crate) fn max_line(self) -> u64
+    pub(crate) fn max_line_number(self) -> u64
         ensures line { result ≡ max_line self }
         ensures small { result ≤ MAX_LINE }
     {

@@ -29,7 +29,11 @@ impl Model for Payload {
 
 impl Payload {
     /// A copy of the ports and the body. An error says that there was no memory for them.
-    pub fn copy_of(alloc: Global, ports: &[EndId], body: &Body) -> Result<Payload, OutOfMemory>
+    pub fn copy_of_parts(
+        alloc: Global,
+        ports: &[EndId],
+        body: &Body,
+    ) -> Result<Payload, OutOfMemory>
         requires { IsPortList ports.now }
         ensures { IfOk result (λ message. message ≡ (ports.now, body.now)) }
     {
@@ -39,7 +43,7 @@ impl Payload {
     }
 
     /// These ports and this body. It takes no memory.
-    pub(crate) fn of(ports: Vec<EndId>, body: Body) -> Payload
+    pub(crate) fn of_parts(ports: Vec<EndId>, body: Body) -> Payload
         requires { IsPortList ports.items }
         ensures { result ≡ (ports.items, body) }
     {

@@ -59,7 +59,7 @@ pub fn read_logs(alloc: Global, bytes: &[u8]) -> Result<Vec<Log>, (usize, LogErr
         return Ok(logs);
     }
     let (header, mut rest) = split_text_line(bytes);
-    let Some(version) = LogVersion::of(header) else {
+    let Some(version) = LogVersion::of_header(header) else {
         return Err((1, LogError::BadHeader));
     };
     let mut closed = BTreeSet::new(alloc);
@@ -122,7 +122,7 @@ fn add_entry(
     if !note_closing(&entry, closed)? {
         return Err(LogError::BadLine);
     }
-    log.append(entry)?;
+    log.append_entry(entry)?;
     Ok(())
 }
 

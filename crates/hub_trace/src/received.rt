@@ -11,7 +11,7 @@ ghost use Rattle.hub_trace.specs.Views.{receipts_in};
 
 use crate::content::Content;
 use crate::log::Log;
-use crate::log_entry::{Delivery, LogEntry, is_of_later_line};
+use crate::log_entry::{Delivery, LogEntry, is_after_sender_line};
 use hub_envelope::{EndId, LineId, OutOfMemory, Posted};
 use std::alloc::Global;
 use std::collections::BTreeMap;
@@ -58,26 +58,26 @@ fn happenings_in_order(alloc: Global, logs: &[Log]) -> Result<Vec<Happening<'_>>
     ensures order { IfOk result (λ v. RisesByEnd v.items) }
     ensures own { IfOk result (λ v. All IsOwn v.items) }
 {
-    let mut happenings = all_happenings(alloc, logs)?;
+    let mut happenings = happenings_of_all_logs(alloc, logs)?;
     happenings.sort_by_key(|h| (h.end.0, h.stretch))?;
     Ok(happenings)
 }
 
 /// What happened at all ends, in the order of the logs.
-fn all_happenings(alloc: Global, logs: &[Log]) -> Result<Vec<Happening<'_>>, OutOfMemory>
+fn happenings_of_all_logs(alloc: Global, logs: &[Log]) -> Result<Vec<Happening<'_>>, OutOfMemory>
     ensures ends { IfOk result (λ v. (end : ℕ) →
         end_events_in v.items end ≡ all_end_events logs.now end) }
     ensures own { IfOk result (λ v. All IsOwn v.items) }
 {
     let mut happenings = Vec::new(alloc);
     for log in logs {
-        add_happenings(alloc, log.entries(), &mut happenings)?;
+        add_happenings_of_log(alloc, log.entries(), &mut happenings)?;
     }
     Ok(happenings)
 }
 
 /// Adds what the entries of one log say.
-fn add_happenings<'a>(
+fn add_happenings_of_log<'a>(
     alloc: Global,
     entries: &'a [LogEntry],
     happenings: &mut Vec<Happening<'a>>,
@@ -145,7 +145,7 @@ fn arrivals_of<'a>(
 }
 
 /// The arrivals at the front that are of this line. The first arrival is.
-pub(crate) fn front_of_line<'s, 'a>(
+pub(crate) fn arrivals_of_first_line<'s, 'a>(
     arrivals: &'s [Incoming<'a>],
     end: EndId,
     line: LineId,
@@ -159,6 +159,6 @@ pub(crate) fn front_of_line<'s, 'a>(
     ensures front { arrivals.now ≡ result.now ++ drop (length result.now) arrivals.now }
     ensures line { result.now ≡ filter (λ a. is_of end.0 line.0 a.posted) arrivals.now }
 {
-    let count = arrivals.partition_point(|a| !is_of_later_line(&a.posted, end, line));
+    let count = arrivals.partition_point(|a| !is_after_sender_line(&a.posted, end, line));
     &arrivals[..count]
 }

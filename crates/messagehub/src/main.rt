@@ -2,8 +2,8 @@
 //! runs a script on threads and prints the logs of its agents, or checks the logs of a run.
 #![tactic(auto)]
 
-use hub_engine::{CountedReader, CountedWriter, Ending, end_out_of_memory};
-use hub_modes::run_words;
+use hub_engine::{CountedReader, CountedWriter, Ending, write_out_of_memory};
+use hub_modes::run_with_arguments;
 use std::alloc::AllocError;
 use std::io::ErrorKind;
 use std::process::ExitCode;
@@ -13,8 +13,8 @@ fn main(rt: HostRuntime) -> ExitCode {
     let mut reader = CountedReader::new(rt.stdin());
     let mut writer = CountedWriter::new(io::writer(&rt));
     let answer = match words_after_name(&rt) {
-        Ok(words) => run_words(rt.alloc(), &rt, &words, &mut reader, &mut writer),
-        Err(AllocError) => end_out_of_memory(&mut writer),
+        Ok(words) => run_with_arguments(rt.alloc(), &rt, &words, &mut reader, &mut writer),
+        Err(AllocError) => write_out_of_memory(&mut writer),
     };
     let Ending { status, message } = Ending::of(answer);
     if let Some(message) = message {

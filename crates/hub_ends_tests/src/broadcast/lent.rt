@@ -1,7 +1,9 @@
 //! A roster of one's own, and the same behind a lock: joins, casts and leaves answer alike over
 //! both.
 use crate::broadcast::{NO_PORTS, is_first, key};
-use hub_broadcast::{CastError, CastOutcome, Member, Roster, SharedRoster, cast_in, leave_in};
+use hub_broadcast::{
+    CastError, CastOutcome, Member, Roster, SharedRoster, cast_in_lent_roster, leave_lent_roster,
+};
 use hub_depot::Depot;
 use hub_envelope::{AgentId, EndId};
 use hub_locked::Lends;
@@ -35,7 +37,7 @@ fn casts<L: Lends<Roster>, R: Wait>(
     source: &Member,
 ) -> Option<Result<usize, CastError>> {
     let yard = Depot::<Onward>::new(alloc);
-    let cast = cast_in(
+    let cast = cast_in_lent_roster(
         rt,
         lender,
         &yard,
@@ -70,7 +72,7 @@ fn casts_and_leaves<L: Lends<Roster>, R: Wait>(
     let mut stays = join(rt, alloc, lender, &mut ends)?;
     let mut leaves = join(rt, alloc, lender, &mut ends)?;
     let to_both = casts(rt, alloc, lender, &source)?;
-    leave_in(rt, lender, leaves.id());
+    leave_lent_roster(rt, lender, leaves.id());
     let to_one = casts(rt, alloc, lender, &source)?;
     let from_none = casts(rt, alloc, lender, &leaves)?;
     let are_taken = is_first(take(rt, &mut stays), 7, "[1]")

@@ -38,7 +38,7 @@ fn hands_worker<R: Wait>(rt: &R, alloc: Global, directory: &Directory, drawn: u3
 
 /// Whether a worker's queue of the number 0 waits for the agent.
 fn has_worker<R: Wait>(rt: &R, directory: &Directory) -> bool {
-    match directory.fetch(rt, EndId(0), TO) {
+    match directory.fetch_handed_queue(rt, EndId(0), TO) {
         Some(handed) => {
             let is_worker = matches!(&handed.queue, HandedQueue::Worker(_));
             drop(handed);

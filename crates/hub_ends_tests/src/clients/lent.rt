@@ -1,8 +1,8 @@
 //! A listing and a map of one's own, and the same behind a lock: the calls of a directory answer
 //! alike over both. What is told of the end is kept in a list.
 use hub_clients::{
-    Directory, DirectoryError, Handed, HandedQueue, QueueList, close_all, fetch_from, keep_in,
-    open_in,
+    Directory, DirectoryError, Handed, HandedQueue, QueueList, close_handed_queues,
+    fetch_from_lent_map, keep_in_lent_map, open_queue_in_lent_list,
 };
 use hub_depot::{Depot, Kept};
 use hub_envelope::{AgentId, EndId, MAX_LINES};
@@ -37,7 +37,7 @@ fn lends_lines<L: Lends<QueueList>, R: Wait>(
     alloc: Global,
     lender: &mut L,
 ) -> Option<bool> {
-    let queue = open_in(rt, alloc, lender, &mut Ends::new(), bell(alloc)?).ok()?;
+    let queue = open_queue_in_lent_list(rt, alloc, lender, &mut Ends::new(), bell(alloc)?).ok()?;
     let is_missing = matches!(line_to(rt, lender, 7), Err(DirectoryError::NoSuchEnd));
     let are_lent = lends_these(rt, lender, MAX_LINES - 1);
     let last = line_to(rt, lender, 0).ok()?;
@@ -77,11 +77,11 @@ fn keeps_queues<L: Lends<Kept<Handed>>, R: Wait>(
     lender: &mut L,
 ) -> Option<bool> {
     for end in 0..3 {
-        keep_in(rt, lender, queue(rt, alloc, end)?, AgentId(3)).ok()?;
+        keep_in_lent_map(rt, lender, queue(rt, alloc, end)?, AgentId(3)).ok()?;
     }
-    let strange = fetch_from(rt, lender, EndId(1), AgentId(4));
-    let fetched = fetch_from(rt, lender, EndId(1), AgentId(3));
-    let again = fetch_from(rt, lender, EndId(1), AgentId(3));
+    let strange = fetch_from_lent_map(rt, lender, EndId(1), AgentId(4));
+    let fetched = fetch_from_lent_map(rt, lender, EndId(1), AgentId(3));
+    let again = fetch_from_lent_map(rt, lender, EndId(1), AgentId(3));
     let is_right = strange.is_none() && fetched.is_some() && again.is_none();
     drop(strange);
     drop(fetched);
@@ -104,7 +104,7 @@ fn are_closed(told: &[Grave], ends: &[u32]) -> bool {
 
 fn closes_all<R: Wait>(rt: &R, alloc: Global, mut waiting: Kept<Handed>) -> bool {
     let mut told = Vec::<Grave>::new(alloc);
-    close_all(rt, &mut waiting, &mut told);
+    close_handed_queues(rt, &mut waiting, &mut told);
     let is_right = are_closed(told.as_slice(), &[0, 2]);
     drop(told);
     drop(waiting);

@@ -5,8 +5,8 @@ use hub_depot::{Depot, Kept};
 use hub_envelope::{AgentId, EndId, Envelope, Ports};
 use hub_locked::Lends;
 use hub_ports::{
-    ClosingStep, Closings, Hub, Noticed, Parcel, Port, Spent, arrive_from, close_and_tell,
-    close_flight, send_with_ports,
+    ClosingStep, Closings, Hub, Noticed, Parcel, Port, Spent, close_all_ports_in_flight,
+    close_and_tell, send_with_ports, take_ports_from_flight,
 };
 use hub_queue::{Ends, Head, Mailbox, Onward, Point, Poster, Swept, Taker, Took};
 use hub_test_parts::{bell, body, draft, take};
@@ -34,7 +34,7 @@ fn arrived<L: Lends<Kept<Port>>, R: Wait>(
     flight: &mut L,
     envelope: &Envelope,
 ) -> Option<(usize, usize)> {
-    let arrival = arrive_from(rt, flight, alloc, envelope.ports.as_slice()).ok()?;
+    let arrival = take_ports_from_flight(rt, flight, alloc, envelope.ports.as_slice()).ok()?;
     let counts = (arrival.found.len(), arrival.missing.len());
     drop(arrival);
     Some(counts)
@@ -95,7 +95,7 @@ fn closes<R: Wait>(rt: &R, alloc: Global, flight: &mut Kept<Port>) -> Option<boo
     let (near, far) = entangled(alloc, &mut ends)?;
     flight.put(far).ok()?;
     let mut emptied = Vec::<Emptied>::new(alloc);
-    let is_closed = close_flight(rt, alloc, &yard, None, flight, &mut emptied).is_ok();
+    let is_closed = close_all_ports_in_flight(rt, alloc, &yard, None, flight, &mut emptied).is_ok();
     let is_told = matches!(emptied.as_slice(), [(swept, Some((_, Noticed::Put(_))))]
         if swept.id() == EndId(1));
     let mut steps = Vec::<ClosingStep>::new(alloc);
@@ -130,12 +130,12 @@ fn hops<L: Lends<Kept<Onward>>, R: Wait>(rt: &R, alloc: Global, yard: &mut L) ->
         notice: false,
     };
     let (mut said, mut ports) = (Some(body(alloc, "1")?), Some(Ports::none(alloc)));
-    let first = poster.post_on(rt, yard, head, &mut said, &mut ports, &mut told);
+    let first = poster.post_with_lent_yard(rt, yard, head, &mut said, &mut ports, &mut told);
     let is_gone = said.is_none() && ports.is_none();
     let is_first = matches!(first, Ok(posted) if posted.epoch == 0);
-    let moved = taker.adopt_on(rt, yard, bell(alloc)?).ok()?;
+    let moved = taker.adopt_with_lent_yard(rt, yard, bell(alloc)?).ok()?;
     let (mut said, mut ports) = (Some(body(alloc, "2")?), Some(Ports::none(alloc)));
-    let second = poster.post_on(rt, yard, head, &mut said, &mut ports, &mut told);
+    let second = poster.post_with_lent_yard(rt, yard, head, &mut said, &mut ports, &mut told);
     let is_second = matches!(second, Ok(posted) if posted.epoch == 1);
     let are_told = matches!(
         told.as_slice(),

@@ -20,7 +20,7 @@ returns-in-Err-OutOfMemory g c =
     let known = g.R.Read.remaining c.args.reader.now.reader in
     let output = g.E.Engine.output (told known) in
     record {
-      written = (told known, is_told known, writes_weaker _ output _ _ _ (says_so output exit.OutOfMemory out_of_memory (g.E.Engine.wants_memory (told known))) c.end_out_of_memory.ensures.written);
+      written = (told known, is_told known, writes_weaker _ output _ _ _ (says_so output exit.OutOfMemory out_of_memory (g.E.Engine.wants_memory (told known))) c.write_out_of_memory.ensures.written);
       failures = search rules;
-      flushed = c.end_out_of_memory.ensures.flushed;
+      flushed = c.write_out_of_memory.ensures.flushed;
     }

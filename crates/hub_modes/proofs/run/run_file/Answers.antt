@@ -20,7 +20,7 @@ pub returns-in-Err-OutOfMemory : goal.returns-in-Err-OutOfMemory
 returns-in-Err-OutOfMemory g c =
     let known = g.R.Read.remaining c.args.reader.now.reader in
     record {
-      written = (told known, is_told known, writes_weaker _ (IsScriptOutput (told known)) _ _ _ (says_so (IsScriptOutput (told known)) exit.OutOfMemory out_of_memory refl) c.end_out_of_memory.ensures.written);
+      written = (told known, is_told known, writes_weaker _ (IsScriptOutput (told known)) _ _ _ (says_so (IsScriptOutput (told known)) exit.OutOfMemory out_of_memory refl) c.write_out_of_memory.ensures.written);
       failures = search rules;
-      flushed = c.end_out_of_memory.ensures.flushed;
+      flushed = c.write_out_of_memory.ensures.flushed;
     }

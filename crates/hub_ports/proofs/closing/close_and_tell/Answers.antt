@@ -7,9 +7,9 @@ use Rattle.hub_ports.proofs.Tellings.{told_both}
 use Rattle.hub_ports.proofs.closing.close_and_tell.Goals as goal
 
 pub returns-clause-notice : goal.returns-clause-notice
-returns-clause-notice g c = subst (λ (s : StandSeat). IsNoticed s c.put_notice-noticed.new.poster c.put_notice-noticed.result) c.into_parts-taker.ensures.poster c.put_notice-noticed.ensures.notice
+returns-clause-notice g c = subst (λ (s : StandSeat). IsNoticed s c.post_notice_and_tell-noticed.new.poster c.post_notice_and_tell-noticed.result) c.into_parts-taker.ensures.poster c.post_notice_and_tell-noticed.ensures.notice
 
 pub returns-clause-order : goal.returns-clause-order
 returns-clause-order g c =
-    let in_order : TakerSeat → Type 0 = λ t. g.H.Hears.told c.shut-grave.new.heard ≡ option_map (λ list. list ++ Notice c.put_notice-noticed.result ∷ Close (record { 0 = t.end }) ∷ []) (g.H.Hears.told c.args.heard.now) in
-    subst in_order c.into_parts-taker.ensures.taker (told_both _ _ _ _ _ c.put_notice-noticed.ensures.told c.shut-grave.ensures.told)
+    let in_order : TakerSeat → Type 0 = λ t. g.H.Hears.told c.close_taker_and_tell-grave.new.heard ≡ option_map (λ list. list ++ Notice c.post_notice_and_tell-noticed.result ∷ Close (record { 0 = t.end }) ∷ []) (g.H.Hears.told c.args.heard.now) in
+    subst in_order c.into_parts-taker.ensures.taker (told_both _ _ _ _ _ c.post_notice_and_tell-noticed.ensures.told c.close_taker_and_tell-grave.ensures.told)

@@ -16,49 +16,49 @@ returns-in_default-clause-sent g c = λ closings. (inr refl, (refl, refl))
 pub returns-in_default-with_capacity-clause-sent : goal.returns-in_default-with_capacity-clause-sent
 returns-in_default-with_capacity-clause-sent g c = λ closings. (inr refl, (refl, refl))
 
-pub call_back-requires-clause-begun : goal.call_back-requires-clause-begun
-call_back-requires-clause-begun g c =
-    ends-begun (vec_len c.send_off.new.ports) c.send_off.new.ports.items c.args.parcel.now.ports.items c.as_slice-in-Err.result.now c.in-Err.ensures.stayed
+pub take_back_from_flight-requires-clause-begun : goal.take_back_from_flight-requires-clause-begun
+take_back_from_flight-requires-clause-begun g c =
+    ends-begun (vec_len c.put_in_flight.new.ports) c.put_in_flight.new.ports.items c.args.parcel.now.ports.items c.as_slice-in-Err.result.now c.in-Err.ensures.stayed
     (c.as_slice-in-Err.ensures.value ∙ c.in-Ok.ensures ∙ ap ends_of c.as_slice.ensures.value)
 
 pub returns-in-Err-clause-sent : goal.returns-in-Err-clause-sent
 returns-in-Err-clause-sent g c = λ closings.
     let named = c.as_slice-in-Err.ensures.value ∙ c.in-Ok.ensures ∙ ap ends_of c.as_slice.ensures.value in
-    let all : c.call_back.new.missing.items ≡ [] → c.refused.result ≡ c.in-Err.refusal = λ none. c.refused.ensures.whole (c.as_slice-in-Err-2.ensures.value ∙ none) in
-    let some : 0 < length c.call_back.new.missing.items → c.refused.result ≡ Strayed = λ more. c.refused.ensures.strayed (subst (λ (l : List EndId). 0 < length l) (sym c.as_slice-in-Err-2.ensures.value) more) in
+    let all : c.take_back_from_flight.new.missing.items ≡ [] → c.refusal_or_strayed.result ≡ c.in-Err.refusal = λ none. c.refusal_or_strayed.ensures.whole (c.as_slice-in-Err-2.ensures.value ∙ none) in
+    let some : 0 < length c.take_back_from_flight.new.missing.items → c.refusal_or_strayed.result ≡ Strayed = λ more. c.refusal_or_strayed.ensures.strayed (subst (λ (l : List EndId). 0 < length l) (sym c.as_slice-in-Err-2.ensures.value) more) in
     refused_by_flight c.args.line.now (draft_of c.args.agent (carried_body c.args.parcel.now) c.args.parcel.now.ports.items) c.args.parcel.now.ports.items
-    (record { body = c.args.parcel.now.body; ports = c.call_back.new.ports; missing = c.call_back.new.missing }) closings
-    c.in-Err.refusal c.refused.result c.in-Err.ensures.refusal refl (split-same _ _ _ _ _ _ named refl refl c.call_back.ensures.split) all some
+    (record { body = c.args.parcel.now.body; ports = c.take_back_from_flight.new.ports; missing = c.take_back_from_flight.new.missing }) closings
+    c.in-Err.refusal c.refusal_or_strayed.result c.in-Err.ensures.refusal refl (split-same _ _ _ _ _ _ named refl refl c.take_back_from_flight.ensures.split) all some
 
 pub returns-in-Err-clause-left : goal.returns-in-Err-clause-left
 returns-in-Err-clause-left g c =
-    let all : c.call_back.new.missing.items ≡ [] → c.refused.result ≡ c.in-Err.refusal = λ none. c.refused.ensures.whole (c.as_slice-in-Err-2.ensures.value ∙ none) in
-    let some : 0 < length c.call_back.new.missing.items → c.refused.result ≡ Strayed = λ more. c.refused.ensures.strayed (subst (λ (l : List EndId). 0 < length l) (sym c.as_slice-in-Err-2.ensures.value) more) in
-    let apart : IsNoList c.refused.result = told_so IsNoList c.in-Err.refusal c.refused.result c.call_back.new.missing.items (flight-no-list c.in-Err.refusal c.in-Err.ensures.refusal) strayed-no-list all some in
+    let all : c.take_back_from_flight.new.missing.items ≡ [] → c.refusal_or_strayed.result ≡ c.in-Err.refusal = λ none. c.refusal_or_strayed.ensures.whole (c.as_slice-in-Err-2.ensures.value ∙ none) in
+    let some : 0 < length c.take_back_from_flight.new.missing.items → c.refusal_or_strayed.result ≡ Strayed = λ more. c.refusal_or_strayed.ensures.strayed (subst (λ (l : List EndId). 0 < length l) (sym c.as_slice-in-Err-2.ensures.value) more) in
+    let apart : IsNoList c.refusal_or_strayed.result = told_so IsNoList c.in-Err.refusal c.refusal_or_strayed.result c.take_back_from_flight.new.missing.items (flight-no-list c.in-Err.refusal c.in-Err.ensures.refusal) strayed-no-list all some in
     (refl, λ doomed. absurd (apart.0 doomed))
 
 pub returns-in-Err-clause-many : goal.returns-in-Err-clause-many
 returns-in-Err-clause-many g c =
-    let all : c.call_back.new.missing.items ≡ [] → c.refused.result ≡ c.in-Err.refusal = λ none. c.refused.ensures.whole (c.as_slice-in-Err-2.ensures.value ∙ none) in
-    let some : 0 < length c.call_back.new.missing.items → c.refused.result ≡ Strayed = λ more. c.refused.ensures.strayed (subst (λ (l : List EndId). 0 < length l) (sym c.as_slice-in-Err-2.ensures.value) more) in
-    let apart : IsNoList c.refused.result = told_so IsNoList c.in-Err.refusal c.refused.result c.call_back.new.missing.items (flight-no-list c.in-Err.refusal c.in-Err.ensures.refusal) strayed-no-list all some in
-    λ is. let same : c.refused.result ≡ TooManyPorts = cc in absurd (apart.1 same)
+    let all : c.take_back_from_flight.new.missing.items ≡ [] → c.refusal_or_strayed.result ≡ c.in-Err.refusal = λ none. c.refusal_or_strayed.ensures.whole (c.as_slice-in-Err-2.ensures.value ∙ none) in
+    let some : 0 < length c.take_back_from_flight.new.missing.items → c.refusal_or_strayed.result ≡ Strayed = λ more. c.refusal_or_strayed.ensures.strayed (subst (λ (l : List EndId). 0 < length l) (sym c.as_slice-in-Err-2.ensures.value) more) in
+    let apart : IsNoList c.refusal_or_strayed.result = told_so IsNoList c.in-Err.refusal c.refusal_or_strayed.result c.take_back_from_flight.new.missing.items (flight-no-list c.in-Err.refusal c.in-Err.ensures.refusal) strayed-no-list all some in
+    λ is. let same : c.refusal_or_strayed.result ≡ TooManyPorts = cc in absurd (apart.1 same)
 
 pub returns-in-Err-clause-doomed : goal.returns-in-Err-clause-doomed
 returns-in-Err-clause-doomed g c =
-    let all : c.call_back.new.missing.items ≡ [] → c.refused.result ≡ c.in-Err.refusal = λ none. c.refused.ensures.whole (c.as_slice-in-Err-2.ensures.value ∙ none) in
-    let some : 0 < length c.call_back.new.missing.items → c.refused.result ≡ Strayed = λ more. c.refused.ensures.strayed (subst (λ (l : List EndId). 0 < length l) (sym c.as_slice-in-Err-2.ensures.value) more) in
-    let apart : IsNoList c.refused.result = told_so IsNoList c.in-Err.refusal c.refused.result c.call_back.new.missing.items (flight-no-list c.in-Err.refusal c.in-Err.ensures.refusal) strayed-no-list all some in
-    λ is. let same : c.refused.result ≡ Doomed = cc in absurd (apart.0 same)
+    let all : c.take_back_from_flight.new.missing.items ≡ [] → c.refusal_or_strayed.result ≡ c.in-Err.refusal = λ none. c.refusal_or_strayed.ensures.whole (c.as_slice-in-Err-2.ensures.value ∙ none) in
+    let some : 0 < length c.take_back_from_flight.new.missing.items → c.refusal_or_strayed.result ≡ Strayed = λ more. c.refusal_or_strayed.ensures.strayed (subst (λ (l : List EndId). 0 < length l) (sym c.as_slice-in-Err-2.ensures.value) more) in
+    let apart : IsNoList c.refusal_or_strayed.result = told_so IsNoList c.in-Err.refusal c.refusal_or_strayed.result c.take_back_from_flight.new.missing.items (flight-no-list c.in-Err.refusal c.in-Err.ensures.refusal) strayed-no-list all some in
+    λ is. let same : c.refusal_or_strayed.result ≡ Doomed = cc in absurd (apart.0 same)
 
 pub returns-in-Err-clause-flown : goal.returns-in-Err-clause-flown
 returns-in-Err-clause-flown g c =
     let named = c.as_slice-in-Err.ensures.value ∙ c.in-Ok.ensures ∙ ap ends_of c.as_slice.ensures.value in
-    let all : c.call_back.new.missing.items ≡ [] → c.refused.result ≡ c.in-Err.refusal = λ none. c.refused.ensures.whole (c.as_slice-in-Err-2.ensures.value ∙ none) in
-    let some : 0 < length c.call_back.new.missing.items → c.refused.result ≡ Strayed = λ more. c.refused.ensures.strayed (subst (λ (l : List EndId). 0 < length l) (sym c.as_slice-in-Err-2.ensures.value) more) in
-    flown_back (g.L.Lends.shown c.args.flight.now) _ _ c.args.parcel.now.ports.items c.send_off.new.ports.items c.as_slice-in-Err.result.now
-    (record { body = c.args.parcel.now.body; ports = c.call_back.new.ports; missing = c.call_back.new.missing }) c.in-Err.refusal c.refused.result
-    (flight-whole c.in-Err.refusal c.in-Err.ensures.refusal) c.send_off.ensures.flown c.call_back.ensures.back named all
+    let all : c.take_back_from_flight.new.missing.items ≡ [] → c.refusal_or_strayed.result ≡ c.in-Err.refusal = λ none. c.refusal_or_strayed.ensures.whole (c.as_slice-in-Err-2.ensures.value ∙ none) in
+    let some : 0 < length c.take_back_from_flight.new.missing.items → c.refusal_or_strayed.result ≡ Strayed = λ more. c.refusal_or_strayed.ensures.strayed (subst (λ (l : List EndId). 0 < length l) (sym c.as_slice-in-Err-2.ensures.value) more) in
+    flown_back (g.L.Lends.shown c.args.flight.now) _ _ c.args.parcel.now.ports.items c.put_in_flight.new.ports.items c.as_slice-in-Err.result.now
+    (record { body = c.args.parcel.now.body; ports = c.take_back_from_flight.new.ports; missing = c.take_back_from_flight.new.missing }) c.in-Err.refusal c.refusal_or_strayed.result
+    (flight-whole c.in-Err.refusal c.in-Err.ensures.refusal) c.put_in_flight.ensures.flown c.take_back_from_flight.ensures.back named all
 
 pub returns-in-Err-post_lent-clause-sent : goal.returns-in-Err-post_lent-clause-sent
 returns-in-Err-post_lent-clause-sent g c = λ closings.
@@ -69,9 +69,9 @@ returns-in-Err-post_lent-clause-sent g c = λ closings.
     let out = c.unwrap-listed.ensures in
     let same : c.unwrap-listed.result ≡ c.in-Ok-of_list.listed = cc in
     let named : c.as_slice-in-Err-post_lent.result.now ≡ draft.ports = c.as_slice-in-Err-post_lent.ensures.listed ∙ same ∙ list in
-    let all : c.call_back-in-Err-post_lent.new.missing.items ≡ [] → c.refused-in-Err-post_lent.result ≡ c.of_line.result = λ none. c.refused-in-Err-post_lent.ensures.whole (c.as_slice-in-Err-post_lent-2.ensures.value ∙ none) in
-    let some : 0 < length c.call_back-in-Err-post_lent.new.missing.items → c.refused-in-Err-post_lent.result ≡ Strayed = λ more. c.refused-in-Err-post_lent.ensures.strayed (subst (λ (l : List EndId). 0 < length l) (sym c.as_slice-in-Err-post_lent-2.ensures.value) more) in
+    let all : c.take_back_from_flight-in-Err-post_lent.new.missing.items ≡ [] → c.refusal_or_strayed-in-Err-post_lent.result ≡ c.from_post_error.result = λ none. c.refusal_or_strayed-in-Err-post_lent.ensures.whole (c.as_slice-in-Err-post_lent-2.ensures.value ∙ none) in
+    let some : 0 < length c.take_back_from_flight-in-Err-post_lent.new.missing.items → c.refusal_or_strayed-in-Err-post_lent.result ≡ Strayed = λ more. c.refusal_or_strayed-in-Err-post_lent.ensures.strayed (subst (λ (l : List EndId). 0 < length l) (sym c.as_slice-in-Err-post_lent-2.ensures.value) more) in
     refused_by_line c.args.line.now c.post_lent.new.self draft c.args.parcel.now.ports.items
-    (record { body = c.post_lent.new.body; ports = c.call_back-in-Err-post_lent.new.ports; missing = c.call_back-in-Err-post_lent.new.missing }) closings
-    c.of_line.result c.refused-in-Err-post_lent.result c.in-Err-post_lent.error c.of_line.ensures (ap lent_list c.in-Err-post_lent.ensures.left.0)
-    (split-same _ _ _ _ _ _ named refl refl c.call_back-in-Err-post_lent.ensures.split) refused all some
+    (record { body = c.post_lent.new.body; ports = c.take_back_from_flight-in-Err-post_lent.new.ports; missing = c.take_back_from_flight-in-Err-post_lent.new.missing }) closings
+    c.from_post_error.result c.refusal_or_strayed-in-Err-post_lent.result c.in-Err-post_lent.error c.from_post_error.ensures (ap lent_list c.in-Err-post_lent.ensures.left.0)
+    (split-same _ _ _ _ _ _ named refl refl c.take_back_from_flight-in-Err-post_lent.ensures.split) refused all some

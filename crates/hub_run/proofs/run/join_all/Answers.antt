@@ -17,24 +17,24 @@ loop-handle-preserved g c =
     let script = c.args._script.now in
     let handle = c.in-Some.handle in
     let ran = c.in_ok-log.field-0 in
-    let logs = vec_items c.push.new.list in
-    let acted = vec_items c.push-in-loop-handle.new.list in
+    let logs = vec_items c.push_or_drop.new.list in
+    let acted = vec_items c.push_or_drop-in-loop-handle.new.list in
     let number_is : handle.promise.number.0 ≡ done = let h = was.1 0 handle in grind rules in
     let script_is : handle.promise.script.now ≡ script = let h = was.2 0 handle in grind rules in
     let here : IsRunFor script (record { 0 = done }) ran.log ran.acted =
     subst (λ (s : Contents). IsRunFor s (record { 0 = done }) ran.log ran.acted) script_is
     (subst (λ (n : ℕ). IsRunFor handle.promise.script.now (record { 0 = n }) ran.log ran.acted) number_is c.in_ok-log.ensures) in
-    let grown : vec_len c.push.new.list ≡ done + 1 = search rules in (
+    let grown : vec_len c.push_or_drop.new.list ≡ done + 1 = search rules in (
       search rules,
       (λ k d below. let h = was.1 (k + 1) d in grind rules),
       (λ k d below. let h = was.2 (k + 1) d in grind rules),
       search rules,
       λ k d e below. below_more (λ i. IsRunFor script (record { 0 = i }) (get_or logs i d) (get_or acted i e)) done
-          (λ i low. subst (λ (l : AgentLog). IsRunFor script (record { 0 = i }) l (get_or acted i e)) (sym (c.in_ok-push.ensures.others i d low))
-          (subst (λ (a : Acted). IsRunFor script (record { 0 = i }) (get_or (vec_items c.loop-handle.run.logs) i d) a) (sym (c.in_ok-push-2.ensures.others i e (subst (λ n. i < n) (sym was.3) low))) (was.4 i d e low)))
-          (subst (λ (l : AgentLog). IsRunFor script (record { 0 = done }) l (get_or acted done e)) (sym (c.in_ok-push.ensures.last d))
+          (λ i low. subst (λ (l : AgentLog). IsRunFor script (record { 0 = i }) l (get_or acted i e)) (sym (c.in_ok-push_or_drop.ensures.others i d low))
+          (subst (λ (a : Acted). IsRunFor script (record { 0 = i }) (get_or (vec_items c.loop-handle.run.logs) i d) a) (sym (c.in_ok-push_or_drop-2.ensures.others i e (subst (λ n. i < n) (sym was.3) low))) (was.4 i d e low)))
+          (subst (λ (l : AgentLog). IsRunFor script (record { 0 = done }) l (get_or acted done e)) (sym (c.in_ok-push_or_drop.ensures.last d))
           (subst (λ (a : Acted). IsRunFor script (record { 0 = done }) ran.log a)
-          (sym (subst (λ n. get_or acted n e ≡ ran.acted) was.3 (c.in_ok-push-2.ensures.last e))) here)) k (omega arith),
+          (sym (subst (λ n. get_or acted n e ≡ ran.acted) was.3 (c.in_ok-push_or_drop-2.ensures.last e))) here)) k (omega arith),
     )
 
 pub returns : goal.returns

@@ -19,17 +19,17 @@ loop-agent-preserved g c =
     let was = c.loop-agent.invariant in
     let step = c.in-Some.ensures.steps in
     let done = vec_len c.loop-agent.handles in
-    let new = vec_items c.push.new.list in
-    let grown : vec_len c.push.new.list ≡ done + 1 = search rules in
+    let new = vec_items c.push_or_drop.new.list in
+    let grown : vec_len c.push_or_drop.new.list ≡ done + 1 = search rules in
     let promised = c.in_ok-handle.ensures.ok in
     let number_is : c.in_ok-handle.handle.promise.number.0 ≡ done = ap (λ (p : Part). p.number.0) promised ∙ grind rules in
     let script_is : c.in_ok-handle.handle.promise.script.now ≡ c.args.script.now = ap (λ (p : Part). p.script.now) promised in (
       search rules,
       (λ k d below. below_more (λ i. (get_or new i d).promise.number.0 ≡ i) done
-          (λ i low. ap (λ (h : AgentThread). h.promise.number.0) (c.in_ok-push.ensures.others i d low) ∙ was.1 i d low)
-          (ap (λ (h : AgentThread). h.promise.number.0) (c.in_ok-push.ensures.last d) ∙ number_is) k (omega arith)),
+          (λ i low. ap (λ (h : AgentThread). h.promise.number.0) (c.in_ok-push_or_drop.ensures.others i d low) ∙ was.1 i d low)
+          (ap (λ (h : AgentThread). h.promise.number.0) (c.in_ok-push_or_drop.ensures.last d) ∙ number_is) k (omega arith)),
       (λ k d below. below_more (λ i. (get_or new i d).promise.script.now ≡ c.args.script.now) done
-          (λ i low. ap (λ (h : AgentThread). h.promise.script.now) (c.in_ok-push.ensures.others i d low) ∙ was.2 i d low)
-          (ap (λ (h : AgentThread). h.promise.script.now) (c.in_ok-push.ensures.last d) ∙ script_is) k (omega arith)),
+          (λ i low. ap (λ (h : AgentThread). h.promise.script.now) (c.in_ok-push_or_drop.ensures.others i d low) ∙ was.2 i d low)
+          (ap (λ (h : AgentThread). h.promise.script.now) (c.in_ok-push_or_drop.ensures.last d) ∙ script_is) k (omega arith)),
       subst (λ n. AreGivenFrom c.args.script.now n (into_iter_items c.next.new.self)) (sym grown) (given_next c.args.script.now done c.in-Some.agent (into_iter_items c.loop-agent.agent-iterator) (into_iter_items c.next.new.self) step.0 was.3).1,
     )

@@ -11,10 +11,10 @@ returns-in_default-clause-says c = inr (not_utf8 c.args.bytes.now c.in_default.e
 
 pub returns-clause-says : goal.returns-clause-says
 returns-clause-says c =
-    subst (IsReadAs OutOfMemory (λ x. x) c.form_in_text.result) (ap form_in_text c.in-Ok.ensures.cases.0 ∙ sym (form_of_text c.args.bytes.now c.in-Ok.ensures.cases.1)) c.form_in_text.ensures
+    subst (IsReadAs OutOfMemory (λ x. x) c.parse_form.result) (ap form_in_text c.in-Ok.ensures.cases.0 ∙ sym (form_of_text c.args.bytes.now c.in-Ok.ensures.cases.1)) c.parse_form.ensures
 
 pub returns-clause-memory : goal.returns-clause-memory
-returns-clause-memory c = on_error c.form_in_text.result OutOfMemory (is_utf8 c.args.bytes.now ≡ true) (valid c.args.bytes.now c.in-Ok.ensures.cases.1)
+returns-clause-memory c = on_error c.parse_form.result OutOfMemory (is_utf8 c.args.bytes.now ≡ true) (valid c.args.bytes.now c.in-Ok.ensures.cases.1)
 
 pub returns-clause-utf8 : goal.returns-clause-utf8
-returns-clause-utf8 c = on_value c.form_in_text.result (is_utf8 c.args.bytes.now ≡ true) (valid c.args.bytes.now c.in-Ok.ensures.cases.1)
+returns-clause-utf8 c = on_value c.parse_form.result (is_utf8 c.args.bytes.now ≡ true) (valid c.args.bytes.now c.in-Ok.ensures.cases.1)

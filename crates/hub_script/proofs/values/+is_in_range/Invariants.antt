@@ -4,10 +4,10 @@ use Rattle.hub_script.specs.JsonData.{items_in_range, members_in_range}
 use Rattle.hub_script.proofs.values.+is_in_range.Given as goal
 
 -- what is left decides
-abbrev pub invariant-items_in_range-loop-item : goal.invariant-items_in_range-loop-item
-invariant-items_in_range-loop-item l =
+abbrev pub invariant-items_all_in_range-loop-item : goal.invariant-items_all_in_range-loop-item
+invariant-items_all_in_range-loop-item l =
     items_in_range (items_view (drop l.item-index l.items)) ≡ items_in_range (items_view l.items)
 
-abbrev pub invariant-members_in_range-loop-member : goal.invariant-members_in_range-loop-member
-invariant-members_in_range-loop-member l =
+abbrev pub invariant-members_all_in_range-loop-member : goal.invariant-members_all_in_range-loop-member
+invariant-members_all_in_range-loop-member l =
     members_in_range (members_view (drop l.member-index l.members)) ≡ members_in_range (members_view l.members)

@@ -4,12 +4,12 @@ use Rattle.hub_steps.proofs.perform.perform_rarer.Goals as goal
 
 pub returns-in-Step-clause-performed : goal.returns-in-Step-clause-performed
 returns-in-Step-clause-performed c =
-    performed c.args.core.now c.show_step.new.core c.args.lives.now c.args.line (command.Step c.in-Step.action) c.show_step.result c.in-Step.is c.show_step.ensures.shown
+    performed c.args.core.now c.take_step_and_show.new.core c.args.lives.now c.args.line (command.Step c.in-Step.action) c.take_step_and_show.result c.in-Step.is c.take_step_and_show.ensures.shown
 
 pub returns-in-At-clause-performed : goal.returns-in-At-clause-performed
 returns-in-At-clause-performed c =
-    performed c.args.core.now c.perform_at.new.core c.args.lives.now c.args.line (command.At c.in-At.poster c.in-At.command) c.perform_at.result c.in-At.is c.perform_at.ensures.performed
+    performed c.args.core.now c.perform_poster_command.new.core c.args.lives.now c.args.line (command.At c.in-At.poster c.in-At.command) c.perform_poster_command.result c.in-At.is c.perform_poster_command.ensures.performed
 
 pub returns-in-Loaded-clause-performed : goal.returns-in-Loaded-clause-performed
 returns-in-Loaded-clause-performed c =
-    performed c.args.core.now c.load.new.core c.args.lives.now c.args.line (command.Loaded c.in-Loaded.end) c.load.result c.in-Loaded.is c.load.ensures.shown
+    performed c.args.core.now c.start_client_queue.new.core c.args.lives.now c.args.line (command.Loaded c.in-Loaded.end) c.start_client_queue.result c.in-Loaded.is c.start_client_queue.ensures.shown

@@ -18,22 +18,22 @@ returns-in-Good c =
     let refused = c.args.memory_refused in
     let ports = c.args.ports in
     let few : length ports ≤ 16 = subst (λ ps. length ps ≤ 16) c.as_slice-listed.ensures (omega arith) in
-    if_ok (λ shown. ComputesAt c.args.core.now c.send.new.core (send refused ports c.args.body c.args.sender) shown) (λ shown. ComputesAt c.args.core.now c.send.new.core (post refused ports c.args.body c.args.sender) shown)
-    (λ shown did. post_listed c.args.core.now c.send.new.core refused ports c.as_slice-listed.result.now c.args.body c.args.sender c.may_post.result c.listing_of.result Good shown c.may_post.ensures c.if-not-may_post.false few c.as_slice-listed.ensures c.listing_of.ensures c.in-Good.is did)
-    c.send.result c.send.ensures
+    if_ok (λ shown. ComputesAt c.args.core.now c.enter_push_and_leave.new.core (send refused ports c.args.body c.args.sender) shown) (λ shown. ComputesAt c.args.core.now c.enter_push_and_leave.new.core (post refused ports c.args.body c.args.sender) shown)
+    (λ shown did. post_listed c.args.core.now c.enter_push_and_leave.new.core refused ports c.as_slice-listed.result.now c.args.body c.args.sender c.may_post.result c.check_port_list.result Good shown c.may_post.ensures c.if-not-may_post.false few c.as_slice-listed.ensures c.check_port_list.ensures c.in-Good.is did)
+    c.enter_push_and_leave.result c.enter_push_and_leave.ensures
 
-pub returns-in_ok-close_each-in-HoldsTarget : goal.returns-in_ok-close_each-in-HoldsTarget
-returns-in_ok-close_each-in-HoldsTarget c =
+pub returns-in_ok-close_all_ends-in-HoldsTarget : goal.returns-in_ok-close_all_ends-in-HoldsTarget
+returns-in_ok-close_all_ends-in-HoldsTarget c =
     let refused = c.args.memory_refused in
     let ports = c.args.ports in
     let few : length ports ≤ 16 = subst (λ ps. length ps ≤ 16) c.as_slice-listed.ensures (omega arith) in
-    post_listed c.args.core.now c.close_each.new.core refused ports c.as_slice-listed.result.now c.args.body c.args.sender c.may_post.result c.listing_of.result HoldsTarget Doomed c.may_post.ensures c.if-not-may_post.false few c.as_slice-listed.ensures c.listing_of.ensures c.in-HoldsTarget.is
-    (doomed c.args.core.now c.close_each.new.core refused ports c.as_slice-listed.result.now c.args.body c.args.sender c.as_slice-listed.ensures c.in_ok-close_each-in-HoldsTarget.ensures)
+    post_listed c.args.core.now c.close_all_ends.new.core refused ports c.as_slice-listed.result.now c.args.body c.args.sender c.may_post.result c.check_port_list.result HoldsTarget Doomed c.may_post.ensures c.if-not-may_post.false few c.as_slice-listed.ensures c.check_port_list.ensures c.in-HoldsTarget.is
+    (doomed c.args.core.now c.close_all_ends.new.core refused ports c.as_slice-listed.result.now c.args.body c.args.sender c.as_slice-listed.ensures c.in_ok-close_all_ends-in-HoldsTarget.ensures)
 
 pub returns-in-Bad : goal.returns-in-Bad
 returns-in-Bad c =
     let refused = c.args.memory_refused in
     let ports = c.args.ports in
     let few : length ports ≤ 16 = subst (λ ps. length ps ≤ 16) c.as_slice-listed.ensures (omega arith) in
-    post_listed c.args.core.now c.args.core.now refused ports c.as_slice-listed.result.now c.args.body c.args.sender c.may_post.result c.listing_of.result Bad (Answer outcome.NotNow) c.may_post.ensures c.if-not-may_post.false few c.as_slice-listed.ensures c.listing_of.ensures c.in-Bad.is
+    post_listed c.args.core.now c.args.core.now refused ports c.as_slice-listed.result.now c.args.body c.args.sender c.may_post.result c.check_port_list.result Bad (Answer outcome.NotNow) c.may_post.ensures c.if-not-may_post.false few c.as_slice-listed.ensures c.check_port_list.ensures c.in-Bad.is
     (given c.args.core.now (Answer outcome.NotNow))

@@ -10,7 +10,7 @@ returns-in_default-clause-read c = inr (not_utf8 c.args.bytes.now c.in_default.e
 pub returns-in_err-command-clause-read : goal.returns-in_err-command-clause-read
 returns-in_err-command-clause-read c =
     let p = err_from_is_err_and c.from_residual.result c.from_residual.ensures.1 in
-    rw (p.1, p.2) (fails_line _ c.in_err-command.field-0.0 c.args.bytes.now c.marked-memory_refused.result.0 c.marked-memory_refused.result.1.now c.in-Ok.ensures.cases.1 (c.marked-memory_refused.ensures ∙ ap mark c.in-Ok.ensures.cases.0) c.in_err-command.ensures.read)
+    rw (p.1, p.2) (fails_line _ c.in_err-command.field-0.0 c.args.bytes.now c.split_off_mark-memory_refused.result.0 c.split_off_mark-memory_refused.result.1.now c.in-Ok.ensures.cases.1 (c.split_off_mark-memory_refused.ensures ∙ ap mark c.in-Ok.ensures.cases.0) c.in_err-command.ensures.read)
 
 pub returns-clause-read : goal.returns-clause-read
-returns-clause-read c = is_line c.args.bytes.now c.marked-memory_refused.result.0 c.marked-memory_refused.result.1.now c.in_ok-command.command c.in-Ok.ensures.cases.1 (c.marked-memory_refused.ensures ∙ ap mark c.in-Ok.ensures.cases.0) c.in_ok-command.ensures.read
+returns-clause-read c = is_line c.args.bytes.now c.split_off_mark-memory_refused.result.0 c.split_off_mark-memory_refused.result.1.now c.in_ok-command.command c.in-Ok.ensures.cases.1 (c.split_off_mark-memory_refused.ensures ∙ ap mark c.in-Ok.ensures.cases.0) c.in_ok-command.ensures.read

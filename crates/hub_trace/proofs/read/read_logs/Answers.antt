@@ -24,27 +24,27 @@ returns-then-is_empty-clause-reads c =
 pub returns-in_default-clause-written : goal.returns-in_default-clause-written
 returns-in_default-clause-written c =
     let header = c.split_text_line.result.0.now in
-    let none : version_of header ≡ None = sym c.of.ensures ∙ c.in_default.is in
+    let none : version_of header ≡ None = sym c.of_header.ensures ∙ c.in_default.is in
     read_back (λ (v : List AgentLog). v) c.args.bytes.now (Err (1, error.BadHeader)) (inr (other_header c.args.bytes.now header c.split_text_line.result.1.now c.split_text_line.ensures.line none))
 
 pub returns-then-eq-clause-bad_header : goal.returns-then-eq-clause-bad_header
 returns-then-eq-clause-bad_header c = λ other.
     let header = c.split_text_line.result.0.now in
-    let found : version_of header ≡ Some c.in-Some.version = sym c.of.ensures ∙ c.in-Some.is in
+    let found : version_of header ≡ Some c.in-Some.version = sym c.of_header.ensures ∙ c.in-Some.is in
     let has : HasHeader c.args.bytes.now = (c.in-Some.version, has_header_of c.in-Some.version c.args.bytes.now header c.split_text_line.result.1.now c.split_text_line.ensures.line found) in
     absurd (no_other c.args.bytes.now has other)
 
 pub returns-in-Err-clause-bad_header : goal.returns-in-Err-clause-bad_header
 returns-in-Err-clause-bad_header c = λ other.
     let header = c.split_text_line.result.0.now in
-    let found : version_of header ≡ Some c.in-Some.version = sym c.of.ensures ∙ c.in-Some.is in
+    let found : version_of header ≡ Some c.in-Some.version = sym c.of_header.ensures ∙ c.in-Some.is in
     let has : HasHeader c.args.bytes.now = (c.in-Some.version, has_header_of c.in-Some.version c.args.bytes.now header c.split_text_line.result.1.now c.split_text_line.ensures.line found) in
     absurd (no_other c.args.bytes.now has other)
 
 pub returns-clause-bad_header : goal.returns-clause-bad_header
 returns-clause-bad_header c = λ other.
     let header = c.split_text_line.result.0.now in
-    let found : version_of header ≡ Some c.in-Some.version = sym c.of.ensures ∙ c.in-Some.is in
+    let found : version_of header ≡ Some c.in-Some.version = sym c.of_header.ensures ∙ c.in-Some.is in
     let has : HasHeader c.args.bytes.now = (c.in-Some.version, has_header_of c.in-Some.version c.args.bytes.now header c.split_text_line.result.1.now c.split_text_line.ensures.line found) in
     absurd (no_other c.args.bytes.now has other)
 
@@ -64,7 +64,7 @@ pub loop-rest-init : goal.loop-rest-init
 loop-rest-init c =
     let header = c.split_text_line.result.0.now in
     let lines = text_lines_of c.split_text_line.result.1.now in
-    let found : version_of header ≡ Some c.in-Some.version = sym c.of.ensures ∙ c.in-Some.is in
+    let found : version_of header ≡ Some c.in-Some.version = sym c.of_header.ensures ∙ c.in-Some.is in
     record {
       some = omega arith;
       room = omega (arith, c.split_text_line.ensures.shorter);
@@ -106,14 +106,14 @@ returns-clause-written c = read_back (λ (v : List AgentLog). v) c.args.bytes.no
 pub returns-in-Err-clause-errors : goal.returns-in-Err-clause-errors
 returns-in-Err-clause-errors c =
     let header = c.split_text_line.result.0.now in
-    let found : version_of header ≡ Some c.in-Some.version = sym c.of.ensures ∙ c.in-Some.is in
+    let found : version_of header ≡ Some c.in-Some.version = sym c.of_header.ensures ∙ c.in-Some.is in
     let has : HasHeader c.args.bytes.now = (c.in-Some.version, has_header_of c.in-Some.version c.args.bytes.now header c.split_text_line.result.1.now c.split_text_line.ensures.line found) in
     comes_below c.in-Some.version c.in-Err.error c.args.bytes.now c.loop-rest.number c.loop-rest.logs.items c.split_text_line-in-loop-rest.result.0.now has c.loop-rest.invariant.some c.in-Err.ensures.says
 
 pub returns-in-Err-clause-memory : goal.returns-in-Err-clause-memory
 returns-in-Err-clause-memory c = λ memory.
     let header = c.split_text_line.result.0.now in
-    let found : version_of header ≡ Some c.in-Some.version = sym c.of.ensures ∙ c.in-Some.is in
+    let found : version_of header ≡ Some c.in-Some.version = sym c.of_header.ensures ∙ c.in-Some.is in
     takes_at c.in-Some.version c.args.bytes.now c.loop-rest.number c.loop-rest.rest.now c.split_text_line-in-loop-rest.result.0.now c.split_text_line-in-loop-rest.result.1.now
     (has_header_of c.in-Some.version c.args.bytes.now header c.split_text_line.result.1.now c.split_text_line.ensures.line found)
     c.loop-rest.invariant.gone c.split_text_line-in-loop-rest.ensures.line (c.in-Err.ensures.memory memory)

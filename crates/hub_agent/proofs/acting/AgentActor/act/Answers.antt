@@ -22,7 +22,7 @@ returns-in-Cast-clause-ok g c =
 
 pub returns-in-Start-clause-ok : goal.returns-in-Start-clause-ok
 returns-in-Start-clause-ok g c =
-    subst (λ action. Acts action c.args.self.now c.start.new.self) (sym c.in-Start.is) (started_acts c.in-Start.end c.args.self.now c.start.new.self c.start.ensures)
+    subst (λ action. Acts action c.args.self.now c.start_port_or_queue.new.self) (sym c.in-Start.is) (started_acts c.in-Start.end c.args.self.now c.start_port_or_queue.new.self c.start_port_or_queue.ensures)
 
 pub returns-in-Loaded-clause-ok : goal.returns-in-Loaded-clause-ok
 returns-in-Loaded-clause-ok g c =
@@ -36,42 +36,42 @@ returns-in-Loaded-clause-ok g c =
 
 pub returns-in-Close-clause-ok : goal.returns-in-Close-clause-ok
 returns-in-Close-clause-ok g c =
-    subst (λ action. OnOk c.close.result (Acts action c.args.self.now c.close.new.self)) (sym c.in-Close.is) (acts_of _ _ _ _ c.close.result c.close.ensures.written c.close.ensures.held c.close.ensures.rest c.close.ensures.own)
+    subst (λ action. OnOk c.close_port_or_member.result (Acts action c.args.self.now c.close_port_or_member.new.self)) (sym c.in-Close.is) (acts_of _ _ _ _ c.close_port_or_member.result c.close_port_or_member.ensures.written c.close_port_or_member.ensures.held c.close_port_or_member.ensures.rest c.close_port_or_member.ensures.own)
 
 pub returns-in-Wait-clause-ok : goal.returns-in-Wait-clause-ok
 returns-in-Wait-clause-ok g c =
-    subst (λ action. OnOk c.turn_until.result (Acts action c.args.self.now c.turn_until.new.self)) (sym c.in-Wait.is) (acts_while _ _ _ c.turn_until.result c.turn_until.ensures.written c.turn_until.ensures.rest c.turn_until.ensures.own)
+    subst (λ action. OnOk c.turn_until_awaited.result (Acts action c.args.self.now c.turn_until_awaited.new.self)) (sym c.in-Wait.is) (acts_while _ _ _ c.turn_until_awaited.result c.turn_until_awaited.ensures.written c.turn_until_awaited.ensures.rest c.turn_until_awaited.ensures.own)
 
 pub returns-in-Receive-clause-ok : goal.returns-in-Receive-clause-ok
 returns-in-Receive-clause-ok g c =
-    subst (λ action. OnOk c.turn_until-in-Receive.result (Acts action c.args.self.now c.turn_until-in-Receive.new.self)) (sym c.in-Receive.is)
-    (acts_while _ _ _ c.turn_until-in-Receive.result c.turn_until-in-Receive.ensures.written c.turn_until-in-Receive.ensures.rest c.turn_until-in-Receive.ensures.own)
+    subst (λ action. OnOk c.turn_until_awaited-in-Receive.result (Acts action c.args.self.now c.turn_until_awaited-in-Receive.new.self)) (sym c.in-Receive.is)
+    (acts_while _ _ _ c.turn_until_awaited-in-Receive.result c.turn_until_awaited-in-Receive.ensures.written c.turn_until_awaited-in-Receive.ensures.rest c.turn_until_awaited-in-Receive.ensures.own)
 
 pub returns-in-Fetch-clause-ok : goal.returns-in-Fetch-clause-ok
 returns-in-Fetch-clause-ok g c =
-    subst (λ action. OnOk c.turn_until-in-Fetch.result (Acts action c.args.self.now c.turn_until-in-Fetch.new.self)) (sym c.in-Fetch.is)
-    (acts_while _ _ _ c.turn_until-in-Fetch.result c.turn_until-in-Fetch.ensures.written c.turn_until-in-Fetch.ensures.rest c.turn_until-in-Fetch.ensures.own)
+    subst (λ action. OnOk c.turn_until_awaited-in-Fetch.result (Acts action c.args.self.now c.turn_until_awaited-in-Fetch.new.self)) (sym c.in-Fetch.is)
+    (acts_while _ _ _ c.turn_until_awaited-in-Fetch.result c.turn_until_awaited-in-Fetch.ensures.written c.turn_until_awaited-in-Fetch.ensures.rest c.turn_until_awaited-in-Fetch.ensures.own)
 
 pub returns-in-Order-clause-ok : goal.returns-in-Order-clause-ok
 returns-in-Order-clause-ok g c =
     let self = c.self-in-Order.inside in
     let was = c.self-in-Order.view_is in
-    let now : AgentState = record { notes = self.scribe; ends = self.event_loop.holding.ends.held; kept = self.event_loop.kept; order = self.order; peers = c.give_order.new.peers.items; life = self.life; roster = _ } in
+    let now : AgentState = record { notes = self.scribe; ends = self.event_loop.holding.ends.held; kept = self.event_loop.kept; order = self.order; peers = c.order_agent_to_stop.new.peers.items; life = self.life; roster = _ } in
     subst (λ action. Acts action c.args.self.now now) (sym c.in-Order.is)
     (ordered_acts c.in-Order.to c.args.self.now now (
-    λ i. record { notes = (was i).notes; ends = (was i).ends; kept = (was i).kept; order = (was i).order; peers = (c.give_order.ensures ∙ ap (λ (a : AgentState). with_peer peer_ordered c.in-Order.to.0 a.peers) was) i; life = (was i).life; roster = (was i).roster }
+    λ i. record { notes = (was i).notes; ends = (was i).ends; kept = (was i).kept; order = (was i).order; peers = (c.order_agent_to_stop.ensures ∙ ap (λ (a : AgentState). with_peer peer_ordered c.in-Order.to.0 a.peers) was) i; life = (was i).life; roster = (was i).roster }
     ))
 
 pub returns-in-Event-clause-ok : goal.returns-in-Event-clause-ok
 returns-in-Event-clause-ok g c =
     let self = c.self-in-Event.inside in
     let was = c.self-in-Event.view_is in
-    let now : AgentState = record { notes = self.scribe; ends = self.event_loop.holding.ends.held; kept = self.event_loop.kept; order = self.order; peers = self.peers.items; life = c.live.new.life; roster = _ } in
+    let now : AgentState = record { notes = self.scribe; ends = self.event_loop.holding.ends.held; kept = self.event_loop.kept; order = self.order; peers = self.peers.items; life = c.apply_life_event.new.life; roster = _ } in
     subst (λ action. Acts action c.args.self.now now) (sym c.in-Event.is)
     (lived_acts c.in-Event.event c.args.self.now now (
-    λ i. record { notes = (was i).notes; ends = (was i).ends; kept = (was i).kept; order = (was i).order; peers = (was i).peers; life = (c.live.ensures ∙ ap (λ (a : AgentState). option_map (λ p. after p c.in-Event.event) a.life) was) i; roster = (was i).roster }
+    λ i. record { notes = (was i).notes; ends = (was i).ends; kept = (was i).kept; order = (was i).order; peers = (was i).peers; life = (c.apply_life_event.ensures ∙ ap (λ (a : AgentState). option_map (λ p. after p c.in-Event.event) a.life) was) i; roster = (was i).roster }
     ))
 
 pub returns-in-Hand-clause-ok : goal.returns-in-Hand-clause-ok
 returns-in-Hand-clause-ok g c =
-    subst (λ action. OnOk c.hand.result (Acts action c.args.self.now c.hand.new.self)) (sym c.in-Hand.is) (hand_acts c.hand.result c.in-Hand.to c.args.self.now c.hand.new.self c.hand.ensures.changes c.hand.ensures.held)
+    subst (λ action. OnOk c.hand_over_own_queue.result (Acts action c.args.self.now c.hand_over_own_queue.new.self)) (sym c.in-Hand.is) (hand_acts c.hand_over_own_queue.result c.in-Hand.to c.args.self.now c.hand_over_own_queue.new.self c.hand_over_own_queue.ensures.changes c.hand_over_own_queue.ensures.held)

@@ -23,10 +23,10 @@ returns-clause-posted g c =
     let are : ends_of c.in-Some.ports.items ≡ ends = search rules in
     let taken : TakesOut c.in-Some.ports.items c.args.self.now.ends out.ends = search rules in
     let notes = ap (λ (a : AgentState). a.notes) c.self.view_is ∙ ap (λ (a : AgentState). a.notes) c.release_ports.ensures.same in
-    let parcel = c.post_over-answer.new.parcel in
-    let answer = answer_with c.post_over-answer.result parcel c.post_over-answer.new.closings in
-    has_settled c.log_answer-logged.result c.args.way c.as_slice-sent.result.now ends c.agent-agent.result (carried_body sent) c.args.body.now sent.ports parcel.ports.items answer c.args.self.now.ends out.ends c.self.inside.event_loop.holding.ends.held c.post_over-answer.new.event_loop.holding.ends.held c.hold_ports.new.self.ends
-    c.args.self.now.notes c.self.inside.scribe c.log_answer-logged.new.scribe c.hold_ports.new.self.notes
-    (ap (λ (v : Vec PortSeat Global). ends_of v.items) ports ∙ are) c.as_slice-sent.ensures.listed (c.agent-agent.ensures ∙ ap (λ (n : Notes). n.log.0) notes) (ap lent_list c.new-parcel.ensures.0 ∙ search rules)
-    (subst (λ (v : Vec PortSeat Global). TakesOut v.items c.args.self.now.ends out.ends) (sym ports) taken) (ap (λ (a : AgentState). a.ends) c.self.view_is) c.post_over-answer.ensures.sent
-    c.post_over-answer.ensures.back c.in_ok-hold_ports.ensures.held notes (c.log_answer-logged.ensures parcel) (ap (λ (a : AgentState). a.notes) c.hold_ports.ensures.same)
+    let parcel = c.post_over_port_or_line-answer.new.parcel in
+    let answer = answer_with c.post_over_port_or_line-answer.result parcel c.post_over_port_or_line-answer.new.closings in
+    has_settled c.log_post_result-logged.result c.args.way c.as_slice-sent.result.now ends c.agent_id-agent.result (carried_body sent) c.args.body.now sent.ports parcel.ports.items answer c.args.self.now.ends out.ends c.self.inside.event_loop.holding.ends.held c.post_over_port_or_line-answer.new.event_loop.holding.ends.held c.hold_ports.new.self.ends
+    c.args.self.now.notes c.self.inside.scribe c.log_post_result-logged.new.scribe c.hold_ports.new.self.notes
+    (ap (λ (v : Vec PortSeat Global). ends_of v.items) ports ∙ are) c.as_slice-sent.ensures.listed (c.agent_id-agent.ensures ∙ ap (λ (n : Notes). n.log.0) notes) (ap lent_list c.new-parcel.ensures.0 ∙ search rules)
+    (subst (λ (v : Vec PortSeat Global). TakesOut v.items c.args.self.now.ends out.ends) (sym ports) taken) (ap (λ (a : AgentState). a.ends) c.self.view_is) c.post_over_port_or_line-answer.ensures.sent
+    c.post_over_port_or_line-answer.ensures.back c.in_ok-hold_ports.ensures.held notes (c.log_post_result-logged.ensures parcel) (ap (λ (a : AgentState). a.notes) c.hold_ports.ensures.same)

@@ -7,12 +7,12 @@ use Rattle.hub_agent.proofs.agent.Agent.send.Goals as goal
 
 pub returns-then-not-branch-clause-sent : goal.returns-then-not-branch-clause-sent
 returns-then-not-branch-clause-sent g c =
-    let line : HasLine c.args.queue c.args.self.now.ends c.take_line.new.self.ends = search rules in
-    let none : HoldsNoLine c.take_line.new.self.ends c.args.queue = c.in_ok-take_line.ensures.none (search rules) in
-    no_line c.args.queue c.args.transfer.now c.args.body.now c.args.self.now.ends c.take_line.new.self.ends c.args.self.now.notes c.take_line.new.self.notes line none (ap (λ (a : AgentState). a.notes) c.take_line.ensures.same)
+    let line : HasLine c.args.queue c.args.self.now.ends c.ensure_line_to_queue.new.self.ends = search rules in
+    let none : HoldsNoLine c.ensure_line_to_queue.new.self.ends c.args.queue = c.in_ok-ensure_line_to_queue.ensures.none (search rules) in
+    no_line c.args.queue c.args.transfer.now c.args.body.now c.args.self.now.ends c.ensure_line_to_queue.new.self.ends c.args.self.now.notes c.ensure_line_to_queue.new.self.notes line none (ap (λ (a : AgentState). a.notes) c.ensure_line_to_queue.ensures.same)
 
 pub returns-clause-sent : goal.returns-clause-sent
 returns-clause-sent g c =
-    let line : HasLine c.args.queue c.args.self.now.ends c.take_line.new.self.ends = search rules in
-    sent_over c.post.result c.args.queue c.args.transfer.now c.args.body.now c.args.self.now.ends c.take_line.new.self.ends c.post.new.self.ends c.args.self.now.notes c.take_line.new.self.notes c.post.new.self.notes
-    line (ap (λ (a : AgentState). a.notes) c.take_line.ensures.same) c.post.ensures.posted
+    let line : HasLine c.args.queue c.args.self.now.ends c.ensure_line_to_queue.new.self.ends = search rules in
+    sent_over c.post.result c.args.queue c.args.transfer.now c.args.body.now c.args.self.now.ends c.ensure_line_to_queue.new.self.ends c.post.new.self.ends c.args.self.now.notes c.ensure_line_to_queue.new.self.notes c.post.new.self.notes
+    line (ap (λ (a : AgentState). a.notes) c.ensure_line_to_queue.ensures.same) c.post.ensures.posted

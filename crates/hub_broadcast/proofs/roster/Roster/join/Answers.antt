@@ -11,7 +11,7 @@ invariant_of-subscription c = (only_named _ _ _ _ _ c.in_ok-taker.ensures (poppe
 pub invariant_of-self-2 : goal.invariant_of-self-2
 invariant_of-self-2 c =
     let named = only_named _ _ _ _ _ c.in_ok-taker.ensures (popped_last _ _ _ _ c.pop.ensures.items c.unwrap.ensures) in
-    joined_rises MAX_ENDS c.in-Some.end.0 _ _ _ _ _ _ c.if-not-is_below.false c.is_below.ensures c.self.view_is c.reserve.ensures.items c.push_reserved.ensures.items c.self.invariant (ap (λ e. e.0) named.1) (omega (arith, c.in-Some.ensures.least, c.in-Some.ensures.few))
+    joined_rises MAX_ENDS c.in-Some.end.0 _ _ _ _ _ _ c.if-not-are_all_ends_below.false c.are_all_ends_below.ensures c.self.view_is c.reserve.ensures.items c.push_reserved.ensures.items c.self.invariant (ap (λ e. e.0) named.1) (omega (arith, c.in-Some.ensures.least, c.in-Some.ensures.few))
 
 pub returns-clause-ok : goal.returns-clause-ok
 returns-clause-ok c = record {

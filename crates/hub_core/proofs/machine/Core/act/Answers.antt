@@ -26,7 +26,7 @@ pub returns-in-Part : goal.returns-in-Part
 returns-in-Part c = told c.args.step (action.Part c.in-Part.end) _ _ _ c.in-Part.is (part_took c.in-Part.end c.args.step.memory_refused _ _ _ c.leave_roster.ensures.0 c.leave_roster.ensures.1 c.leave_roster.ensures.2)
 
 pub returns-in-Leave : goal.returns-in-Leave
-returns-in-Leave c = told c.args.step (action.Leave c.in-Leave.sender) _ _ _ c.in-Leave.is (took_where _ _ c.args.self.now _ _ c.leave.ensures.1 (λ f s. c.leave.ensures.0 ∙ ap (λ g. leave_answer g c.in-Leave.sender) (seen_is s)) (λ f. leave_changes c.in-Leave.sender _))
+returns-in-Leave c = told c.args.step (action.Leave c.in-Leave.sender) _ _ _ c.in-Leave.is (took_where _ _ c.args.self.now _ _ c.leave_queue.ensures.1 (λ f s. c.leave_queue.ensures.0 ∙ ap (λ g. leave_answer g c.in-Leave.sender) (seen_is s)) (λ f. leave_changes c.in-Leave.sender _))
 
 pub returns-in-Channel : goal.returns-in-Channel
 returns-in-Channel c = told_or c.args.step (action.Channel c.in-Channel.agent) _ _ _ c.in-Channel.is refl c.make_channel.ensures (same_content _ _) (λ o p. took_by _ _ c.args.self.now _ _ p.1 refl (λ f s. p.0 ∙ ap (λ g. channel_answer g c.in-Channel.agent c.args.step.memory_refused) (seen_is s)) (λ f. channel_changes c.in-Channel.agent _))
@@ -38,31 +38,31 @@ pub returns-in-Worker : goal.returns-in-Worker
 returns-in-Worker c = told_or c.args.step (action.Worker c.in-Worker.agent) _ _ _ c.in-Worker.is refl c.make_queue-in-Worker.ensures (same_content _ _) (λ o p. took_by _ _ c.args.self.now _ _ (p.1 ∙ worker_core c.in-Worker.agent c.args.self.now o) refl (λ f s. p.0 ∙ queue_answered Worker c.in-Worker.agent _ s) (λ f. worker_changes c.in-Worker.agent _))
 
 pub returns-in-Line : goal.returns-in-Line
-returns-in-Line c = told c.args.step (action.Line c.in-Line.end c.in-Line.agent) _ _ _ c.in-Line.is (took_by _ _ c.args.self.now _ _ c.hold.ensures.1 refl (λ f s. c.hold.ensures.0 ∙ line_fits c.in-Line.end c.in-Line.agent s) (λ f. line_changes c.in-Line.end c.in-Line.agent _))
+returns-in-Line c = told c.args.step (action.Line c.in-Line.end c.in-Line.agent) _ _ _ c.in-Line.is (took_by _ _ c.args.self.now _ _ c.hold_free_line.ensures.1 refl (λ f s. c.hold_free_line.ensures.0 ∙ line_fits c.in-Line.end c.in-Line.agent s) (λ f. line_changes c.in-Line.end c.in-Line.agent _))
 
 pub returns-in-Back : goal.returns-in-Back
-returns-in-Back c = told c.args.step (action.Back c.in-Back.sender) _ _ _ c.in-Back.is (took_by _ _ c.args.self.now _ _ c.give_back.ensures.1 refl (λ f s. c.give_back.ensures.0 ∙ ap (λ g. back_answer g c.in-Back.sender) (seen_is s)) (λ f. back_changes c.in-Back.sender _))
+returns-in-Back c = told c.args.step (action.Back c.in-Back.sender) _ _ _ c.in-Back.is (took_by _ _ c.args.self.now _ _ c.release_line.ensures.1 refl (λ f s. c.release_line.ensures.0 ∙ ap (λ g. back_answer g c.in-Back.sender) (seen_is s)) (λ f. back_changes c.in-Back.sender _))
 
 pub returns-in-Hop : goal.returns-in-Hop
-returns-in-Hop c = told c.args.step (action.Hop c.in-Hop.sender) _ _ _ c.in-Hop.is (took_by _ _ c.args.self.now _ _ c.hop.ensures.1 refl (λ f s. c.hop.ensures.0 ∙ ap (λ g. hop_answer g c.in-Hop.sender) (seen_is s)) (λ f. hop_changes c.in-Hop.sender _))
+returns-in-Hop c = told c.args.step (action.Hop c.in-Hop.sender) _ _ _ c.in-Hop.is (took_by _ _ c.args.self.now _ _ c.move_line_to_next_queue.ensures.1 refl (λ f s. c.move_line_to_next_queue.ensures.0 ∙ ap (λ g. hop_answer g c.in-Hop.sender) (seen_is s)) (λ f. hop_changes c.in-Hop.sender _))
 
 pub returns-in-Start : goal.returns-in-Start
 returns-in-Start c = told c.args.step (action.Start c.in-Start.end) _ _ _ c.in-Start.is (took_by _ _ c.args.self.now _ _ c.start.ensures.1 refl (λ f s. c.start.ensures.0 ∙ ap (λ g. start_answer g c.in-Start.end) (seen_is s)) (λ f. start_changes c.in-Start.end _))
 
 pub returns-in-Look : goal.returns-in-Look
-returns-in-Look c = told c.args.step (action.Look c.in-Look.end) _ _ _ c.in-Look.is (took_by _ _ c.args.self.now _ _ c.look.ensures.1 refl (λ f s. c.look.ensures.0 ∙ look_fits c.in-Look.end s) (λ f. look_changes c.in-Look.end _))
+returns-in-Look c = told c.args.step (action.Look c.in-Look.end) _ _ _ c.in-Look.is (took_by _ _ c.args.self.now _ _ c.mark_next_queue_clear.ensures.1 refl (λ f s. c.mark_next_queue_clear.ensures.0 ∙ look_fits c.in-Look.end s) (λ f. look_changes c.in-Look.end _))
 
 pub returns-in-Order : goal.returns-in-Order
-returns-in-Order c = told c.args.step (action.Order c.in-Order.agent) _ _ _ c.in-Order.is (took_by _ _ c.args.self.now _ _ c.order.ensures.1 refl (λ f s. c.order.ensures.0 ∙ ap (λ g. order_answer g c.in-Order.agent) (seen_is s)) (λ f. order_changes c.in-Order.agent _))
+returns-in-Order c = told c.args.step (action.Order c.in-Order.agent) _ _ _ c.in-Order.is (took_by _ _ c.args.self.now _ _ c.request_agent_stop.ensures.1 refl (λ f s. c.request_agent_stop.ensures.0 ∙ ap (λ g. order_answer g c.in-Order.agent) (seen_is s)) (λ f. order_changes c.in-Order.agent _))
 
 pub returns-in-Enter : goal.returns-in-Enter
-returns-in-Enter c = told c.args.step (action.Enter c.in-Enter.sender) _ _ _ c.in-Enter.is (took_by _ _ c.args.self.now _ _ c.enter.ensures.1 refl (λ f s. c.enter.ensures.0 ∙ ap (λ g. enter_answer g c.in-Enter.sender) (seen_is s)) (λ f. enter_changes c.in-Enter.sender _))
+returns-in-Enter c = told c.args.step (action.Enter c.in-Enter.sender) _ _ _ c.in-Enter.is (took_by _ _ c.args.self.now _ _ c.enter_queue.ensures.1 refl (λ f s. c.enter_queue.ensures.0 ∙ ap (λ g. enter_answer g c.in-Enter.sender) (seen_is s)) (λ f. enter_changes c.in-Enter.sender _))
 
 pub returns-in-Close : goal.returns-in-Close
 returns-in-Close c = told c.args.step (action.Close c.in-Close.end) _ _ _ c.in-Close.is (took_by _ _ c.args.self.now _ _ c.close.ensures.1 refl (λ f s. c.close.ensures.0 ∙ ap (λ g. close_answer g c.in-Close.end) (seen_is s)) (λ f. close_changes c.in-Close.end _))
 
 pub returns-in-Hand : goal.returns-in-Hand
-returns-in-Hand c = told c.args.step (action.Hand c.in-Hand.end c.in-Hand.agent) _ _ _ c.in-Hand.is (took_by _ _ c.args.self.now _ _ c.hand.ensures.1 refl (λ f s. c.hand.ensures.0 ∙ ap (λ g. hand_answer g c.in-Hand.end c.in-Hand.agent) (seen_is s)) (λ f. hand_changes c.in-Hand.end c.in-Hand.agent _))
+returns-in-Hand c = told c.args.step (action.Hand c.in-Hand.end c.in-Hand.agent) _ _ _ c.in-Hand.is (took_by _ _ c.args.self.now _ _ c.hand_over_queue.ensures.1 refl (λ f s. c.hand_over_queue.ensures.0 ∙ ap (λ g. hand_answer g c.in-Hand.end c.in-Hand.agent) (seen_is s)) (λ f. hand_changes c.in-Hand.end c.in-Hand.agent _))
 
 pub returns-in-Adopt : goal.returns-in-Adopt
 returns-in-Adopt c = told_or c.args.step (action.Adopt c.in-Adopt.end c.in-Adopt.agent) _ _ _ c.in-Adopt.is refl c.adopt.ensures (same_content _ _) (λ o p. took_by _ _ c.args.self.now _ _ p.1 refl (λ f s. p.0 ∙ ap (λ g. adopt_answer g c.in-Adopt.end c.in-Adopt.agent c.args.step.memory_refused) (seen_is s)) (λ f. adopt_changes c.in-Adopt.end c.in-Adopt.agent _))
@@ -71,13 +71,13 @@ pub returns-in-Push : goal.returns-in-Push
 returns-in-Push c = told_or c.args.step (action.Push c.in-Push.sender c.in-Push.ports c.in-Push.body) _ _ _ c.in-Push.is refl c.push.ensures (same_content _ _) (λ o p. took_by _ _ c.args.self.now _ _ p.1 refl (λ f s. p.0 ∙ push_fits c.in-Push.sender c.in-Push.ports c.in-Push.body _ s) (λ f. push_changes c.in-Push.sender c.in-Push.ports c.in-Push.body _))
 
 pub returns-in-Notice : goal.returns-in-Notice
-returns-in-Notice c = told_or c.args.step (action.Notice c.in-Notice.sender) _ _ _ c.in-Notice.is refl c.notice.ensures (same_content _ _) (λ o p. took_by _ _ c.args.self.now _ _ p.1 refl (λ f s. p.0 ∙ notice_fits c.in-Notice.sender _ s) (λ f. notice_changes c.in-Notice.sender _))
+returns-in-Notice c = told_or c.args.step (action.Notice c.in-Notice.sender) _ _ _ c.in-Notice.is refl c.put_notice.ensures (same_content _ _) (λ o p. took_by _ _ c.args.self.now _ _ p.1 refl (λ f s. p.0 ∙ notice_fits c.in-Notice.sender _ s) (λ f. notice_changes c.in-Notice.sender _))
 
 pub returns-in-Sweep : goal.returns-in-Sweep
 returns-in-Sweep c = told_or c.args.step (action.Sweep c.in-Sweep.end) _ _ _ c.in-Sweep.is refl c.sweep.ensures (same_content _ _) (λ o p. took_by _ _ c.args.self.now _ _ p.1 refl (λ f s. subst (FitsSweep f c.in-Sweep.end) (sym p.0) (sweep_fits f c.in-Sweep.end _ s.shows.sound (s.shows.end c.in-Sweep.end.0))) (λ f s. sweep_changes c.in-Sweep.end _ s p.0))
 
 pub returns-in-See : goal.returns-in-See
-returns-in-See c = told_or c.args.step (action.See c.in-See.agent) _ _ _ c.in-See.is refl c.see.ensures (same_content _ _) (λ o p. took_by _ _ c.args.self.now _ _ p.1 refl (λ f s. p.0 ∙ see_fits c.in-See.agent s) (λ f. see_changes c.in-See.agent _))
+returns-in-See c = told_or c.args.step (action.See c.in-See.agent) _ _ _ c.in-See.is refl c.stop_agent_if_requested.ensures (same_content _ _) (λ o p. took_by _ _ c.args.self.now _ _ p.1 refl (λ f s. p.0 ∙ see_fits c.in-See.agent s) (λ f. see_changes c.in-See.agent _))
 
 pub returns-in-Take : goal.returns-in-Take
 returns-in-Take c = told c.args.step (action.Take c.in-Take.end) _ _ _ c.in-Take.is (took_by _ _ c.args.self.now _ _ c.take.ensures.1 refl (λ f s. take_fits c.in-Take.end _ s c.take.ensures.0) (λ f s. take_changes c.in-Take.end _ s c.take.ensures.0))

@@ -15,12 +15,12 @@ pub invariant_of-result : goal.invariant_of-result
 invariant_of-result g c =
     let kept = c.self.invariant in
     let held = holding c.self.inside.seat.me c.exchange.new.seat.me c.self.inside.line c.self.inside.right kept.1 kept.2 c.exchange.ensures.3 in
-    let out = let_out g.T.Right.tag _ _ _ c.self.inside.seat.me c.exchange.new.seat.me c.fetch_sub-word.new.seat.me c.self.inside.right c.fetch_sub-word.result c.enabled_in.result c.self.view_is (ap (λ m. m.1) held.0) held.1 c.fetch_sub-word.ensures.2 c.enabled_in.ensures.exactly (c.fetch_sub-word.ensures.0 ∙ c.exchange.ensures.0) in
+    let out = let_out g.T.Right.tag _ _ _ c.self.inside.seat.me c.exchange.new.seat.me c.fetch_sub-word.new.seat.me c.self.inside.right c.fetch_sub-word.result c.has_enabled_flag.result c.self.view_is (ap (λ m. m.1) held.0) held.1 c.fetch_sub-word.ensures.2 c.has_enabled_flag.ensures.exactly (c.fetch_sub-word.ensures.0 ∙ c.exchange.ensures.0) in
     (search rules, out.0, kept.2 ∙ sym out.1)
 
 pub returns : goal.returns
 returns g c =
     let kept = c.self.invariant in
     let held = holding c.self.inside.seat.me c.exchange.new.seat.me c.self.inside.line c.self.inside.right kept.1 kept.2 c.exchange.ensures.3 in
-    let out = let_out g.T.Right.tag _ _ _ c.self.inside.seat.me c.exchange.new.seat.me c.fetch_sub-word.new.seat.me c.self.inside.right c.fetch_sub-word.result c.enabled_in.result c.self.view_is (ap (λ m. m.1) held.0) held.1 c.fetch_sub-word.ensures.2 c.enabled_in.ensures.exactly (c.fetch_sub-word.ensures.0 ∙ c.exchange.ensures.0) in
+    let out = let_out g.T.Right.tag _ _ _ c.self.inside.seat.me c.exchange.new.seat.me c.fetch_sub-word.new.seat.me c.self.inside.right c.fetch_sub-word.result c.has_enabled_flag.result c.self.view_is (ap (λ m. m.1) held.0) held.1 c.fetch_sub-word.ensures.2 c.has_enabled_flag.ensures.exactly (c.fetch_sub-word.ensures.0 ∙ c.exchange.ensures.0) in
     record { entry = out.2; step = out.3 }

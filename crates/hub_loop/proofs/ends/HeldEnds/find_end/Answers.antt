@@ -4,7 +4,7 @@ use Rattle.hub_ready.specs.Finding.{LeadsTo}
 use Rattle.hub_loop.specs.Looking.{IsEndOf, IsSlotOf}
 use Rattle.hub_loop.proofs.Looks.{found-marked, if-none, none-found, nowhere, not-so, not-there}
 use Rattle.hub_loop.proofs.ends.HeldEnds.find_end.Goals as goal
-use Rattle.hub_loop.proofs.ends.HeldEnds.find_end.Goals.{in-Some+else-is_end, in_default}
+use Rattle.hub_loop.proofs.ends.HeldEnds.find_end.Goals.{in-Some+else-is_end_of_kind, in_default}
 
 pub returns : goal.returns
 returns c =
@@ -12,9 +12,9 @@ returns c =
     let listed = self.ready.listed.items in
     let Is = IsEndOf c.args.kind c.args.end in
     let elsewhere : (key : ℕ) → LeadsTo listed c.args.end key → IsSlotOf Is (get self.held key) → ⊥ =
-    elim c.match-key_of.branch [
-      | in-Some+else-is_end w ↦ let no : w.is_end.result ≡ false = search rules in not-there Is self.held listed c.args.end c.key_of.result w.in-Some.key c.key_of.ensures w.in-Some.is (subst (λ slot. IsSlotOf Is slot → ⊥) w.get.ensures (not-so w.is_end.result w.is_end.ensures no))
-      | in_default w ↦ λ key leads here. nowhere listed c.args.end c.key_of.result c.key_of.ensures w.in_default.not-Some key leads
+    elim c.match-key_of_end.branch [
+      | in-Some+else-is_end_of_kind w ↦ let no : w.is_end_of_kind.result ≡ false = search rules in not-there Is self.held listed c.args.end c.key_of_end.result w.in-Some.key c.key_of_end.ensures w.in-Some.is (subst (λ slot. IsSlotOf Is slot → ⊥) w.get.ensures (not-so w.is_end_of_kind.result w.is_end_of_kind.ensures no))
+      | in_default w ↦ λ key leads here. nowhere listed c.args.end c.key_of_end.result c.key_of_end.ensures w.in_default.not-Some key leads
     ] in
     found-marked Is self.held c.find_marked.result c.find_marked.ensures.some
     (if-none c.find_marked.result c.find_marked.ensures.none (λ marked. none-found self.held self.ready c.args.kind c.args.end self.reached elsewhere marked))

@@ -9,13 +9,13 @@ invariant_of-self c =
     let old = c.args.self.now in
     let key = c.insert_reserved-key.result in
     let bit : HasBit old.ready.marks key = subst (HasBit old.ready.marks) (sym c.insert_reserved-key.ensures.key) c.requires.bit in
-    let has : HasBit c.place.new.self.marks key = omega (arith, bit, c.place.ensures.others.bits) in
+    let has : HasBit c.mark_and_list.new.self.marks key = omega (arith, bit, c.mark_and_list.ensures.others.bits) in
     record {
       room = omega (arith, old.room, c.insert_reserved-key.ensures.capacity);
-      reached = all-but old.held c.insert_reserved-key.new.self old.ready c.place.new.self key
+      reached = all-but old.held c.insert_reserved-key.new.self old.ready c.mark_and_list.new.self key
           c.insert_reserved-key.ensures.updates.others
-          (moves-other old.ready c.place.new.self key c.place.ensures.others (λ end other differs leads. c.place.ensures.listed end.0 other leads))
-          (λ held is. is-marked c.place.new.self key held has (c.place.ensures.set bit))
+          (moves-other old.ready c.mark_and_list.new.self key c.mark_and_list.ensures.others (λ end other differs leads. c.mark_and_list.ensures.listed end.0 other leads))
+          (λ held is. is-marked c.mark_and_list.new.self key held has (c.mark_and_list.ensures.set bit))
           old.reached;
     }
 
@@ -39,10 +39,10 @@ returns-in-Some-clause-marks c =
     let key = c.insert_reserved-key.result in
     let bit : HasBit old.ready.marks key = subst (HasBit old.ready.marks) (sym c.insert_reserved-key.ensures.key) c.requires.bit in
     record {
-      marked = marked-but old.held c.insert_reserved-key.new.self old.ready c.place.new.self key
+      marked = marked-but old.held c.insert_reserved-key.new.self old.ready c.mark_and_list.new.self key
           c.insert_reserved-key.ensures.updates.others
-          c.place.ensures.others
-          (λ held end is number. c.place.ensures.set bit);
+          c.mark_and_list.ensures.others
+          (λ held end is number. c.mark_and_list.ensures.set bit);
       next = refl;
     }
 

@@ -9,10 +9,10 @@ invariant_of-self c =
     let key = c.in_ok-key.key in
     record {
       room = omega (arith, old.room, c.try_remove.ensures.capacity);
-      reached = all-but old.held c.try_remove.new.self old.ready c.forget.new.self key
+      reached = all-but old.held c.try_remove.new.self old.ready c.unmark_and_unlist.new.self key
           c.try_remove.ensures.updates.others
-          (moves-other old.ready c.forget.new.self key c.forget.ensures.others (λ end other differs leads. c.forget.ensures.listed end.0 other differs leads))
-          (is-gone c.forget.new.self key (get c.try_remove.new.self key) c.try_remove.ensures.updates.changed)
+          (moves-other old.ready c.unmark_and_unlist.new.self key c.unmark_and_unlist.ensures.others (λ end other differs leads. c.unmark_and_unlist.ensures.listed end.0 other differs leads))
+          (is-gone c.unmark_and_unlist.new.self key (get c.try_remove.new.self key) c.try_remove.ensures.updates.changed)
           old.reached;
     }
 
@@ -22,7 +22,7 @@ returns-clause-marks c =
     let slots = c.try_remove.new.self in
     let key = c.in_ok-key.key in
     record {
-      marked = marked-but old.held slots old.ready c.forget.new.self key c.try_remove.ensures.updates.others c.forget.ensures.others
+      marked = marked-but old.held slots old.ready c.unmark_and_unlist.new.self key c.try_remove.ensures.updates.others c.unmark_and_unlist.ensures.others
           (λ held end is number. absurd (let gone : get slots key ≡ None = c.try_remove.ensures.updates.changed in cc));
       next = refl;
     }

@@ -26,7 +26,7 @@ returns-in_err-opened-clause-err g c =
       kept = from.kept;
       fetched = from.fetched.items;
       closing = from.closing;
-    }) (holding_of c.take_open.new.self) c.take_open.new.kept c.take_open.new.fetched.items c.take.new.self same.0 same.2 same.1 (c.take.ensures.after ∙ sym none)
+    }) (holding_of c.take_all_to_close.new.self) c.take_all_to_close.new.kept c.take_all_to_close.new.fetched.items c.take.new.self same.0 same.2 same.1 (c.take.ensures.after ∙ sym none)
     ∙ c.self.view_is)
 
 pub returns-clause-ok : goal.returns-clause-ok
@@ -34,7 +34,7 @@ returns-clause-ok g c =
     let from = c.self.inside in
     let done = c.new-2.result in
     subst (λ l. HasEnded l (closing_ends done) done.noticed) c.self.view_is
-    (ended-first done (closed_of from.holding.closed) (closed_of c.take_open.new.self.closed) (closed_of c.close_all.new.self) (closed_of c.replace-closed.result) (still_open from.holding.ends.held from.fetched.items from.kept) c.in_ok-opened.opened.items c.sort_unstable_by_key.new.self.items from.closing
+    (ended-first done (closed_of from.holding.closed) (closed_of c.take_all_to_close.new.self.closed) (closed_of c.close_and_record_all.new.self) (closed_of c.replace-closed.result) (still_open from.holding.ends.held from.fetched.items from.kept) c.in_ok-opened.opened.items c.sort_unstable_by_key.new.self.items from.closing
     (sym c.take.ensures.value ∙ c.in_default.is) c.new-2.ensures.swept c.in_ok-opened.ensures.taken c.sort_unstable_by_key.ensures.permutation
     (IsNonDecreasingBy-from_sort_by_key (λ o. (open_number o).0) _ c.sort_unstable_by_key.ensures.sorted (λ a r f h. search rules))
-    c.take_open.ensures.closed c.close_all.ensures.graves c.close_all.ensures.told (ap closed_of c.replace-closed.ensures.value) c.new-2.ensures.same c.new-2.ensures.noticed c.new-2.ensures.sorted)
+    c.take_all_to_close.ensures.closed c.close_and_record_all.ensures.graves c.close_and_record_all.ensures.told (ap closed_of c.replace-closed.ensures.value) c.new-2.ensures.same c.new-2.ensures.noticed c.new-2.ensures.sorted)

@@ -5,5 +5,5 @@ use Rattle.hub_loop.proofs.event_loop.EventLoop.start_client.Goals as goal
 
 pub returns-clause-started : goal.returns-clause-started
 returns-clause-started g c =
-    subst (λ l. StartsClient l.holding.ends.held c.start_kind.new.self.held c.args.end c.start_kind.result) c.self.view_is
-    (starts-client c.self.inside.holding.ends.held c.start_kind.new.self.held c.args.end c.start_kind.result c.start_kind.ensures.held)
+    subst (λ l. StartsClient l.holding.ends.held c.start_end_of_kind.new.self.held c.args.end c.start_end_of_kind.result) c.self.view_is
+    (starts-client c.self.inside.holding.ends.held c.start_end_of_kind.new.self.held c.args.end c.start_end_of_kind.result c.start_end_of_kind.ensures.held)

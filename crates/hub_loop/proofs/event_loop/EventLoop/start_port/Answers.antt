@@ -5,5 +5,5 @@ use Rattle.hub_loop.proofs.event_loop.EventLoop.start_port.Goals as goal
 
 pub returns-clause-started : goal.returns-clause-started
 returns-clause-started g c =
-    subst (λ l. StartsPort l.holding.ends.held c.start_kind.new.self.held c.args.end c.start_kind.result) c.self.view_is
-    (starts-port c.self.inside.holding.ends.held c.start_kind.new.self.held c.args.end c.start_kind.result c.start_kind.ensures.held)
+    subst (λ l. StartsPort l.holding.ends.held c.start_end_of_kind.new.self.held c.args.end c.start_end_of_kind.result) c.self.view_is
+    (starts-port c.self.inside.holding.ends.held c.start_end_of_kind.new.self.held c.args.end c.start_end_of_kind.result c.start_end_of_kind.ensures.held)

@@ -13,13 +13,13 @@ loop-declared-preserved g c =
     let drawn = c.loop-declared.self.ends.drawn in
     let at = c.declared-item.result.at in
     let old = c.loop-declared.self.agents.items in
-    let mid = c.give.new.self.agents.items in
-    let new = c.give-in-loop-declared.new.self.agents.items in
+    let mid = c.give_end_before_run.new.self.agents.items in
+    let new = c.give_end_before_run-in-loop-declared.new.self.agents.items in
     record {
       given = ports_next c.args.script.now done drawn c.declared-item.result c.args.self.now.agents.items old new inside here was.drawn was.given
           (gives_two {E = Unit {0}} (Ok (tt {0})) at (record { 0 = drawn }) (record { 0 = drawn + 1 }) old mid new
-          (gives_numbered {E = Unit {0}} (Ok (tt {0})) at c.in_ok-port.port (record { 0 = drawn }) old mid c.in_ok-port.ensures.first c.in_ok-give.ensures.given)
-          (gives_numbered {E = Unit {0}} (Ok (tt {0})) at c.in_ok-port.other (record { 0 = drawn + 1 }) mid new c.in_ok-port.ensures.second c.in_ok-give-2.ensures.given));
+          (gives_numbered {E = Unit {0}} (Ok (tt {0})) at c.in_ok-port.port (record { 0 = drawn }) old mid c.in_ok-port.ensures.first c.in_ok-give_end_before_run.ensures.given)
+          (gives_numbered {E = Unit {0}} (Ok (tt {0})) at c.in_ok-port.other (record { 0 = drawn + 1 }) mid new c.in_ok-port.ensures.second c.in_ok-give_end_before_run-2.ensures.given));
       drawn = search rules;
     }
 

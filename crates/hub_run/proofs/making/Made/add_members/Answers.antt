@@ -12,10 +12,10 @@ loop-declared-preserved g c =
     let here : c.declared-item.result ≡ get_or (members c.args.script.now) done c.declared-item.result = c.declared-item.is ∙ ap (λ all. get_or all done c.declared-item.result) c.members-declared-items.ensures.members in
     let drawn = c.loop-declared.self.ends.drawn in
     let old = c.loop-declared.self.agents.items in
-    let new = c.give.new.self.agents.items in
+    let new = c.give_end_before_run.new.self.agents.items in
     record {
       given = members_next c.args.script.now done drawn c.declared-item.result c.args.self.now.agents.items old new inside here was.drawn was.given
-          (gives_numbered {E = Unit {0}} (Ok (tt {0})) c.declared-item.result.at c.in_ok-member.member (record { 0 = drawn }) old new c.in_ok-member.ensures.end c.in_ok-give.ensures.given);
+          (gives_numbered {E = Unit {0}} (Ok (tt {0})) c.declared-item.result.at c.in_ok-member.member (record { 0 = drawn }) old new c.in_ok-member.ensures.end c.in_ok-give_end_before_run.ensures.given);
       drawn = search rules;
     }
 

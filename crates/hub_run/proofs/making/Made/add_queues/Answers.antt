@@ -8,10 +8,10 @@ loop-place-preserved g c =
     let place = c.loop-place.place in
     let drawn = c.loop-place.self.ends.drawn in
     let old = c.loop-place.self.agents.items in
-    let new = c.give.new.self.agents.items in
+    let new = c.give_end_before_run.new.self.agents.items in
     record {
       given = queues_next place drawn (record { 0 = place }) c.args.self.now.agents.items old new refl was.drawn was.given
-          (gives_numbered {E = Unit {0}} (Ok (tt {0})) (record { 0 = place }) c.in_ok-queue.queue (record { 0 = drawn }) old new c.in_ok-queue.ensures.end c.in_ok-give.ensures.given);
+          (gives_numbered {E = Unit {0}} (Ok (tt {0})) (record { 0 = place }) c.in_ok-queue.queue (record { 0 = drawn }) old new c.in_ok-queue.ensures.end c.in_ok-give_end_before_run.ensures.given);
       drawn = search rules;
     }
 

@@ -11,18 +11,18 @@ pub loop-number-preserved : goal.loop-number-preserved
 loop-number-preserved c =
     let was = c.loop-number.invariant in
     let n = c.loop-number.number in
-    let seats = c.push.new.list.items in
-    let grown : vec_len c.push.new.list ≡ n + 1 = search rules in
-    let more : vec_len c.push-in-loop-number.new.list ≡ n + 1 = search rules in
-    let push : seats ≡ c.loop-number.seats.items ++ c.in_ok-seat.seat ∷ [] = c.in_ok-push.ensures.items in
-    let word : c.push-in-loop-number.new.list.items ≡ c.loop-number.words.items ++ _ ∷ [] = c.in_ok-push-2.ensures.items in
+    let seats = c.push_or_drop.new.list.items in
+    let grown : vec_len c.push_or_drop.new.list ≡ n + 1 = search rules in
+    let more : vec_len c.push_or_drop-in-loop-number.new.list ≡ n + 1 = search rules in
+    let push : seats ≡ c.loop-number.seats.items ++ c.in_ok-seat.seat ∷ [] = c.in_ok-push_or_drop.ensures.items in
+    let word : c.push_or_drop-in-loop-number.new.list.items ≡ c.loop-number.words.items ++ _ ∷ [] = c.in_ok-push_or_drop-2.ensures.items in
     let seat_is : IsNewSeat n c.in_ok-seat.seat = search rules in
     let len : length c.loop-number.seats.items ≡ n = search rules in
     record {
       seats = grown;
       words = more;
       new = placed_more IsNewSeat c.loop-number.seats.items seats c.in_ok-seat.seat push was.new (subst (λ m. IsNewSeat m c.in_ok-seat.seat) (sym len) seat_is);
-      are = pairs_more (λ s w. All (λ (o : OrderSeat). o ≡ s.for_agent) w.0.items) c.loop-number.seats.items seats c.loop-number.words.items c.push-in-loop-number.new.list.items c.in_ok-seat.seat _ push word (search rules) was.are c.in_ok-seat.ensures.orders;
+      are = pairs_more (λ s w. All (λ (o : OrderSeat). o ≡ s.for_agent) w.0.items) c.loop-number.seats.items seats c.loop-number.words.items c.push_or_drop-in-loop-number.new.list.items c.in_ok-seat.seat _ push word (search rules) was.are c.in_ok-seat.ensures.orders;
     }
 
 pub loop-orders-init : goal.loop-orders-init
@@ -50,8 +50,8 @@ loop-orders-preserved c =
     let s = get_or opened done d in
     let orders = pairs_first (λ s w. All (λ (o : OrderSeat). o ≡ s.for_agent) w.0.items) done opened rest left (c.in-Some.orders, c.in-Some.bell) step.0 pairs d in
     let now = c.loop-orders.seats in
-    let new = c.add_peer.new.seats in
-    let got : AllGet s.for_agent now.items new = subst (λ (l : List Seat). AllGet s.for_agent l new) c.deref_mut.ensures.value (c.in_ok-add_peer.ensures s.for_agent orders) in
+    let new = c.add_peer_to_every_seat.new.seats in
+    let got : AllGet s.for_agent now.items new = subst (λ (l : List Seat). AllGet s.for_agent l new) c.deref_mut.ensures.value (c.in_ok-add_peer_to_every_seat.ensures s.for_agent orders) in
     let written = with_items_is now new (got.0 ∙ search rules) in
     record {
       count = was.count;

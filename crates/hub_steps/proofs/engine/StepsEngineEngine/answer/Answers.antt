@@ -13,16 +13,16 @@ use Rattle.hub_steps.proofs.engine.StepsEngineEngine.answer.Goals as goal
 pub returns-in-Err : goal.returns-in-Err
 returns-in-Err g c =
     let unread = subst (λ bytes. (c.in-Err.error ≡ kind.OutOfMemory) ⊎ (steps_of bytes ≡ Err (c.in-Err.line, c.in-Err.error))) c.deref.ensures.value c.in-Err.ensures.err in
-    let said = subst (λ name. EndsOutput g.W.Write.contents (SaysUnread c.in-Err.line name) c.args.writer.now c.end_unread.new.writer c.end_unread.result) c.name.ensures c.end_unread.ensures in
+    let said = subst (λ name. EndsOutput g.W.Write.contents (SaysUnread c.in-Err.line name) c.args.writer.now c.write_input_error.new.writer c.write_input_error.result) c.name.ensures c.write_input_error.ensures in
     ends_weaker _ _ (IsStepsOutput c.args.input.items) _ _ _ (unread_steps c.args.input.items c.in-Err.line c.in-Err.error unread) said
 
 -- one among those that are left
-pub returns-in-Err-test_steps : goal.returns-in-Err-test_steps
-returns-in-Err-test_steps g c =
+pub returns-in-Err-check_step_lines : goal.returns-in-Err-check_step_lines
+returns-in-Err-check_step_lines g c =
     let held = subst (λ bytes. IsHeld bytes c.in-Ok.held) c.deref.ensures.value c.in-Ok.ensures.held in
-    let unread = unread_later c.args.input.items c.in-Ok.held c.in-Err-test_steps.line c.in-Err-test_steps.error held c.in-Err-test_steps.ensures.err in
-    let said = subst (λ name. EndsOutput g.W.Write.contents (SaysUnread c.in-Err-test_steps.line name) c.args.writer.now c.end_unread-in-Err-test_steps.new.writer c.end_unread-in-Err-test_steps.result) c.name-in-Err-test_steps.ensures c.end_unread-in-Err-test_steps.ensures in
-    ends_weaker _ _ (IsStepsOutput c.args.input.items) _ _ _ (unread_steps c.args.input.items c.in-Err-test_steps.line c.in-Err-test_steps.error unread) said
+    let unread = unread_later c.args.input.items c.in-Ok.held c.in-Err-check_step_lines.line c.in-Err-check_step_lines.error held c.in-Err-check_step_lines.ensures.err in
+    let said = subst (λ name. EndsOutput g.W.Write.contents (SaysUnread c.in-Err-check_step_lines.line name) c.args.writer.now c.write_input_error-in-Err-check_step_lines.new.writer c.write_input_error-in-Err-check_step_lines.result) c.name-in-Err-check_step_lines.ensures c.write_input_error-in-Err-check_step_lines.ensures in
+    ends_weaker _ _ (IsStepsOutput c.args.input.items) _ _ _ (unread_steps c.args.input.items c.in-Err-check_step_lines.line c.in-Err-check_step_lines.error unread) said
 
 pub returns-then-has_memory : goal.returns-then-has_memory
 returns-then-has_memory g c =
@@ -39,7 +39,7 @@ returns g c =
     let contents = g.W.Write.contents in
     let held = subst (λ bytes. IsHeld bytes c.in-Ok.held) c.deref.ensures.value c.in-Ok.ensures.held in
     record {
-      written = ends_early c.args.input.items c.in-Ok.held (contents c.args.writer.now.writer) (contents c.cut_short.new.writer.writer) c.cut_short.result held c.in_default.ensures.ok c.cut_short.ensures.written;
-      failures = c.cut_short.ensures.failures;
-      flushed = c.cut_short.ensures.flushed;
+      written = ends_early c.args.input.items c.in-Ok.held (contents c.args.writer.now.writer) (contents c.finish_out_of_memory.new.writer.writer) c.finish_out_of_memory.result held c.in_default.ensures.ok c.finish_out_of_memory.ensures.written;
+      failures = c.finish_out_of_memory.ensures.failures;
+      flushed = c.finish_out_of_memory.ensures.flushed;
     }

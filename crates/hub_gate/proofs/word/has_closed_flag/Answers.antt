@@ -1,0 +1,8 @@
+use Rattle.std.proofs.Common.{ap, ◌∙◌}
+use Rattle.hub_core.specs.GateMachine as machine
+use Rattle.hub_gate.specs.declared.word.Flag.TheVariants.{Closed}
+use Rattle.hub_gate.proofs.Words.{reads_flag}
+use Rattle.hub_gate.proofs.word.has_closed_flag.Goals as goal
+
+pub returns-clause-part : goal.returns-clause-part
+returns-clause-part c = λ e m x k is. c.has_flag.ensures ∙ ap machine.closed_in is ∙ reads_flag Closed e m x k

@@ -1,6 +1,0 @@
-use Rattle.hub_steps.proofs.Computing.{cast_there}
-use Rattle.hub_steps.proofs.casting.cast_over.Goals as goal
-
-pub returns : goal.returns
-returns c =
-    cast_there c.args.core.now c.take_step.new.core c.push_inside.new.core c.take_step-2.new.core c.args.memory_refused c.args.body.now c.args.end c.in_ok-entered.entered c.in_ok-answer.answer c.in_ok-take_step.field-0 c.in_ok-entered.ensures.answer c.in_ok-answer.ensures c.in_ok-take_step.ensures.answer

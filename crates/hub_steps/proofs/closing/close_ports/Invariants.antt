@@ -1,5 +1,0 @@
-use Rattle.hub_steps.proofs.Computing.{PortsClosed}
-use Rattle.hub_steps.proofs.closing.close_ports.Given as goal
-
-abbrev pub invariant-loop-envelope : goal.invariant-loop-envelope
-invariant-loop-envelope l = PortsClosed l.fn.core l.core l.envelope-index l.memory_refused l.envelopes
