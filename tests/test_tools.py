@@ -151,6 +151,31 @@ class Edits(support.TestCase):
             self.assertTrue(found[1].startswith(said), found)
         self.says(len(rows), "outputs", 8)
 
+    def test_groups(self):
+        """Edits of different functions are tried together, and each is judged by its own."""
+        edits = tool("edits")
+        edits.ROOT = self.folder
+        self.write("crates/one/src/word.rt", SOURCE)
+        rows = [("run", "    1\n}\n\nimpl", "    3\n}\n\nimpl"), ("post", "       2", "       4"),
+                ("again", "        2\n", "        5\n"), ("type", "impl Poster", "impl Other")]
+        made = []
+        for name, old, new in rows:
+            made.append(edits.Edit(self.folder / name, "one"))
+            self.assertIsNone(edits.replace(made[-1], "src/word.rt", old, new))
+        self.assertEqual([it.function for it in made], [
+            ("src/word.rt", "run"), ("src/word.rt", "post"), ("src/word.rt", "post"), None])
+        groups = edits.groups_of(made)
+        names = [[it.path.name for it in group] for group in groups]
+        self.assertEqual(names, [["run", "post"], ["again"], ["type"]])
+        texts = edits.texts_of(groups[0])
+        output = OPEN_GOAL + REFUSED_BY_AN_ANSWER.replace("cut_at", "Poster/post")
+        told = [edits.shown_by(it, texts, 1, output) for it in groups[0]]
+        self.assertEqual([it[0] for it in told], [True, True], told)
+        told = [edits.shown_by(it, texts, 1, OPEN_GOAL) for it in groups[0]]
+        self.assertEqual([it[0] for it in told], [True, False], told)
+        self.assertFalse(edits.shown_by(made[0], texts, 1, COMPILER)[0])
+        self.says(len(made), "edits in groups", 4)
+
 
 class Sources(support.TestCase):
     """tools/edits applies the must-fail edits, and tools/clauses looks that each public clause has
