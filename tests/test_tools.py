@@ -168,7 +168,9 @@ class Edits(support.TestCase):
         names = [[it.path.name for it in group] for group in groups]
         self.assertEqual(names, [["run", "post"], ["again"], ["type"]])
         texts = edits.texts_of(groups[0])
-        output = OPEN_GOAL + REFUSED_BY_AN_ANSWER.replace("cut_at", "Poster/post")
+        # The proof of a type's function may stand below the file of the type.
+        answer = REFUSED_BY_AN_ANSWER.replace("proofs/word/cut_at", "proofs/poster/Poster/post")
+        output = OPEN_GOAL + answer
         told = [edits.shown_by(it, texts, 1, output) for it in groups[0]]
         self.assertEqual([it[0] for it in told], [True, True], told)
         told = [edits.shown_by(it, texts, 1, OPEN_GOAL) for it in groups[0]]
