@@ -161,7 +161,7 @@ class Edits(support.TestCase):
         made = []
         for name, old, new in rows:
             made.append(edits.Edit(self.folder / name, "one"))
-            self.assertIsNone(edits.replace(made[-1], "src/word.rt", old, new))
+            self.assertIsNone(edits.add_change(made[-1], "src/word.rt", old, new))
         self.assertEqual([it.function for it in made], [
             ("src/word.rt", "run"), ("src/word.rt", "post"), ("src/word.rt", "post"), None])
         groups = edits.groups_of(made)
