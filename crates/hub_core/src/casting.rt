@@ -38,7 +38,7 @@ impl Core {
         if !self.is_running(agent) || self.roster.cast.is_some() {
             return Ok(Outcome::NotNow);
         }
-        if !self.roster.members.has_origin_of_agent(agent) {
+        if !self.roster.members.agent_has_origin(agent) {
             return Ok(Outcome::NoOrigin);
         }
         let number = self.ends.len();

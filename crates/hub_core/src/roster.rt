@@ -96,7 +96,7 @@ impl Members {
     }
 
     /// Whether an agent has an origin.
-    pub(crate) fn has_origin_of_agent(&self, agent: AgentId) -> bool
+    pub(crate) fn agent_has_origin(&self, agent: AgentId) -> bool
         ensures { result ≡ is_some (unwrap_or (slice_get self.now.origins agent.0) None) }
     {
         self.origins.origin_of_agent(agent).is_some()

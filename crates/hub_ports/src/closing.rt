@@ -188,7 +188,7 @@ fn post_notice<R: Wait>(rt: &R, alloc: Global, yard: &Depot<Onward>, poster: &mu
 }
 
 /// Posts the notice, and tells of it.
-fn post_notice_and_tell<H: Hears<ClosingStep>, R: Wait>(
+fn post_notice_and_tell_hearer<H: Hears<ClosingStep>, R: Wait>(
     rt: &R,
     alloc: Global,
     yard: &Depot<Onward>,
@@ -205,7 +205,7 @@ fn post_notice_and_tell<H: Hears<ClosingStep>, R: Wait>(
 }
 
 /// Closes the own end of a port, and tells of it.
-fn close_taker_and_tell<H: Hears<ClosingStep>, R: Wait>(
+fn close_taker_and_tell_hearer<H: Hears<ClosingStep>, R: Wait>(
     rt: &R,
     taker: Taker,
     heard: &mut H,
@@ -222,7 +222,7 @@ fn close_taker_and_tell<H: Hears<ClosingStep>, R: Wait>(
 
 /// Closes a port: the notice first, while its own end is open, and then that end. Whoever is told
 /// hears each step where it is done, so a contract sees their order.
-pub fn close_and_tell<H: Hears<ClosingStep>, R: Wait>(
+pub fn close_and_tell_hearer<H: Hears<ClosingStep>, R: Wait>(
     rt: &R,
     alloc: Global,
     yard: &Depot<Onward>,
@@ -235,8 +235,8 @@ pub fn close_and_tell<H: Hears<ClosingStep>, R: Wait>(
         ++ ClosingStep.Notice result.2 ∷ ClosingStep.Close (end_of port) ∷ []) (H.told heard.old) }
 {
     let (taker, mut poster) = port.into_parts();
-    let noticed = post_notice_and_tell(rt, alloc, yard, &mut poster, heard);
-    let grave = close_taker_and_tell(rt, taker, heard);
+    let noticed = post_notice_and_tell_hearer(rt, alloc, yard, &mut poster, heard);
+    let grave = close_taker_and_tell_hearer(rt, taker, heard);
     (grave, Spent { poster }, noticed)
 }
 
@@ -250,7 +250,7 @@ pub(crate) fn close_port<R: Wait>(
     ensures grave { IsClosed port.taker result.0 }
     ensures notice { IsNoticed port.poster result.1 result.2 }
 {
-    close_and_tell(rt, alloc, yard, port, &mut Unheard)
+    close_and_tell_hearer(rt, alloc, yard, port, &mut Unheard)
 }
 
 /// Closes the ports of a list in order, and keeps of each what shows it.

@@ -19,7 +19,7 @@ mod port;
 mod sending;
 
 pub use arriving::{Arrival, Arrived, take_ports_from_flight};
-pub use closing::{ClosedPort, ClosingStep, Closings, Noticed, Spent, close_and_tell};
+pub use closing::{ClosedPort, ClosingStep, Closings, Noticed, Spent, close_and_tell_hearer};
 pub use error::{ChannelError, PortError, SendRefusal};
 pub use flight::close_all_ports_in_flight;
 pub use hub::{Hub, channel};

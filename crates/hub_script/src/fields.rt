@@ -21,7 +21,7 @@ use std::alloc::Global;
 /// The name that stands for an agent's own queue. No port or member can have it.
 pub(crate) const QUEUE: &str = "queue";
 
-fn value_in<'v, 'a>(line: &'v Value<'a>, name: &str) -> Result<&'v Value<'a>, ScriptError>
+fn value_of_field<'v, 'a>(line: &'v Value<'a>, name: &str) -> Result<&'v Value<'a>, ScriptError>
     ensures says { IsReadAs ScriptError.OutOfMemory (λ v. data_in v.now) result
         (value_in name.now (data_in line.now)) }
     ensures writable { IfOk result
@@ -92,7 +92,7 @@ pub(crate) fn two_texts_in(
 ) -> Result<(Text, Text), ScriptError>
     ensures { IsRead result (field_in PAIR name.now (data_in line.now)) }
 {
-    let texts = texts_of(alloc, value_in(line, name)?)?;
+    let texts = texts_of(alloc, value_of_field(line, name)?)?;
     match texts.as_slice() {
         [first, second] => Ok((first.clone()?, second.clone()?)),
         _ => Err(ScriptError::Syntax),
@@ -108,7 +108,7 @@ pub(crate) fn body_in(
     requires writable { IsWritable (value_view line.now) }
     ensures { IsRead result (field_in BODY name.now (data_in line.now)) }
 {
-    let value = value_in(line, name)?;
+    let value = value_of_field(line, name)?;
     let bytes = to_vec(alloc, value)?;
     read_body(alloc, str::from_utf8(&bytes).unwrap())
 }

@@ -66,7 +66,7 @@ fn object_in<'a>(
     ensures says { IsReadAs ScriptError.OutOfMemory data_in result (object_in text.now) }
     ensures writable { IfOk result (λ line. IsWritable (value_view line)) }
 {
-    let line = value_in(alloc, scratch, text)?;
+    let line = read_value_in_range(alloc, scratch, text)?;
     if is_object(&line) {
         Ok(line)
     } else {
@@ -75,7 +75,7 @@ fn object_in<'a>(
 }
 
 /// The JSON value that the text is, where its numbers are in range.
-fn value_in<'a>(
+fn read_value_in_range<'a>(
     alloc: Global,
     scratch: &'a mut Scratch,
     text: &'a str,

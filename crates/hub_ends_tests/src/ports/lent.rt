@@ -6,7 +6,7 @@ use hub_envelope::{AgentId, EndId, Envelope, Ports};
 use hub_locked::Lends;
 use hub_ports::{
     ClosingStep, Closings, Hub, Noticed, Parcel, Port, Spent, close_all_ports_in_flight,
-    close_and_tell, send_with_ports, take_ports_from_flight,
+    close_and_tell_hearer, send_with_ports, take_ports_from_flight,
 };
 use hub_queue::{Ends, Head, Mailbox, Onward, Point, Poster, Swept, Taker, Took};
 use hub_test_parts::{bell, body, draft, take};
@@ -99,7 +99,7 @@ fn closes<R: Wait>(rt: &R, alloc: Global, flight: &mut Kept<Port>) -> Option<boo
     let is_told = matches!(emptied.as_slice(), [(swept, Some((_, Noticed::Put(_))))]
         if swept.id() == EndId(1));
     let mut steps = Vec::<ClosingStep>::new(alloc);
-    let closed = close_and_tell(rt, alloc, &yard, near, &mut steps);
+    let closed = close_and_tell_hearer(rt, alloc, &yard, near, &mut steps);
     let is_in_order = matches!(
         steps.as_slice(),
         [
