@@ -66,8 +66,7 @@ impl Arrived {
     ) -> Result<Port, (AdoptError, Arrived)>
         ensures { IsReceived self result }
     {
-        let Arrived { port } = self;
-        let (taker, poster) = port.into_parts();
+        let (taker, poster) = self.into_port().into_parts();
         match taker.adopt(rt, &hub.yard, bell) {
             Ok(taker) => Ok(Port { taker, poster }),
             Err((error, taker)) => {
@@ -82,8 +81,16 @@ impl Arrived {
         ensures grave { IsClosed self.taker result.0 }
         ensures notice { IsNoticed self.poster result.1 result.2 }
     {
+        close_port(rt, hub.alloc, &hub.yard, self.into_port())
+    }
+
+    /// The port, which is not adopted: what is posted there wakes nobody. It is for whoever closes
+    /// the port beside others.
+    pub fn into_port(self) -> Port
+        ensures { result ≡ self }
+    {
         let Arrived { port } = self;
-        close_port(rt, hub.alloc, &hub.yard, port)
+        port
     }
 }
 
