@@ -8,8 +8,8 @@ use Rattle.std.proofs.lemmas.List.Elements.{filter_map-append}
 use Rattle.std.proofs.lemmas.List.Sums.{sum_by-cons}
 use Rattle.slab.specs.Slab.{Slab, entries, entries_from, slab_len}
 use Rattle.hub_queue.specs.Taking.{TakerSeat}
-use Rattle.hub_loop.specs.declared.ending.StillOpen.{StillOpen}
-use Rattle.hub_loop.specs.Ending.{closing_ends, grave_ends, open_ends, open_number, open_seat, swept_ends}
+use Rattle.hub_loop.specs.declared.held.Held.{Held}
+use Rattle.hub_loop.specs.Ending.{closing_ends, grave_ends, open_ends, swept_ends}
 use Rattle.hub_loop.specs.States.{ClosedState, ClosingState, DeliveryState, HoldingState}
 use Rattle.hub_clients.specs.declared.handed.HandedQueue.{HandedQueue}
 use Rattle.hub_ports.specs.Seats.{PortSeat}
@@ -19,9 +19,9 @@ use Rattle.hub_ports.specs.Closing.{IsTold}
 use Rattle.hub_loop.specs.Noticing.{open_port, port_numbers, ports_in, AreEnded, NamedBehind, AreTold, NoticesMore}
 use Rattle.hub_loop.specs.Looping.{LoopState}
 use Rattle.hub_queue.specs.Standing.{StandSeat}
-use Rattle.hub_loop.specs.Closing.{IsOpenClosed}
+use Rattle.hub_loop.specs.Closing.{IsEndClosed}
+use Rattle.hub_loop.specs.Holding.{number_held, seat_of}
 use Rattle.hub_loop.specs.declared.closed.ClosedEnd.{ClosedEnd}
-use Rattle.hub_loop.specs.declared.ending.StillOpen.TheVariants as still
 use Rattle.hub_loop.specs.declared.held.Held.TheVariants.{Port, Client, Worker, Member, Line}
 
 entries-from : {X : Type 0} (key : ℕ) (slots : List (Option X)) → length (entries_from key slots) ≡ count_by is_some slots
@@ -44,12 +44,12 @@ pub next-left : {X : Type 0} (all done rest after : List X) (x : X) → all ≡ 
 next-left all done rest after x split next = split ∙ ap (λ xs. done ++ xs) next ∙ sym (append_assoc done (x ∷ []) after)
 
 -- one more was closed
-pub ends-more : (all : List StillOpen) (o : StillOpen) (before between after : List ℕ) → between ≡ before ++ open_ends all → after ≡ between ++ open_ends (o ∷ []) → after ≡ before ++ open_ends (all ++ o ∷ [])
+pub ends-more : (all : List Held) (o : Held) (before between after : List ℕ) → between ≡ before ++ open_ends all → after ≡ between ++ open_ends (o ∷ []) → after ≡ before ++ open_ends (all ++ o ∷ [])
 ends-more all o before between after first more =
     more
     ∙ ap (λ ns. ns ++ open_ends (o ∷ [])) first
     ∙ append_assoc before (open_ends all) (open_ends (o ∷ []))
-    ∙ ap (λ ns. before ++ ns) (sym (ap (map (λ (t : TakerSeat). t.end)) (filter_map-append open_seat all (o ∷ [])) ∙ map-append (λ (t : TakerSeat). t.end) (filter_map open_seat all) (filter_map open_seat (o ∷ []))))
+    ∙ ap (λ ns. before ++ ns) (sym (ap (map (λ (t : TakerSeat). t.end)) (filter_map-append seat_of all (o ∷ [])) ∙ map-append (λ (t : TakerSeat). t.end) (filter_map seat_of all) (filter_map seat_of (o ∷ []))))
 
 -- the numbers of what rises by its number rise
 pub rises : {X : Type 0} (n : X → ℕ) (xs : List X) → IsNonDecreasingBy n xs → IsNonDecreasing (map n xs)
@@ -117,19 +117,19 @@ behind-one closed swept old new g p before between after first more same told =
     )
 
 -- what is told goes on from what had begun
-pub ended-begun : (c : ClosingState) (graves : List GraveSeat) (all : List StillOpen) (before : List ClosedPort) (o : Option ClosingState) → o ≡ Some c → AreEnded o graves all (closing_ends c) before c.noticed
+pub ended-begun : (c : ClosingState) (graves : List GraveSeat) (all : List Held) (before : List ClosedPort) (o : Option ClosingState) → o ≡ Some c → AreEnded o graves all (closing_ends c) before c.noticed
 ended-begun c graves all before o is =
     subst (λ (p : Option ClosingState). AreEnded p graves all (closing_ends c) before c.noticed) (sym is) (behind-none (closing_ends c) (closing_ends c) c.noticed c.noticed refl refl)
 
 -- all was taken out and closed, where nothing had begun
-pub ended-first : (c : ClosingState) (old mid new last : ClosedState) (all opened sorted : List StillOpen) (o : Option ClosingState) → o ≡ None → c.swept ≡ [] → opened ≡ all → IsPermutation opened sorted → IsNonDecreasingBy (λ one. (open_number one).0) sorted → mid ≡ old → grave_ends new.graves ≡ grave_ends mid.graves ++ open_ends sorted → NoticesMore (ports_in sorted) mid.noticed new.noticed → last ≡ new → IsPermutation (grave_ends last.graves) (grave_ends c.graves) → c.noticed ≡ last.noticed → IsNonDecreasing (grave_ends c.graves) → AreEnded o old.graves all (closing_ends c) old.noticed c.noticed
-ended-first c old mid new last all opened sorted o is none taken moved rises same graves told mine swapped noticed order =
-    subst (λ (p : Option ClosingState). AreEnded p old.graves all (closing_ends c) old.noticed c.noticed) (sym is) (
+pub ended-first : (c : ClosingState) (old mid new last : ClosedState) (all opened sorted : List Held) → c.swept ≡ [] → opened ≡ all → IsPermutation opened sorted → IsNonDecreasingBy (λ one. (number_held one).0) sorted → mid ≡ old → grave_ends new.graves ≡ grave_ends mid.graves ++ open_ends sorted → NoticesMore (ports_in sorted) mid.noticed new.noticed → last ≡ new → IsPermutation (grave_ends last.graves) (grave_ends c.graves) → c.noticed ≡ last.noticed → IsNonDecreasing (grave_ends c.graves) → AreEnded None old.graves all (closing_ends c) old.noticed c.noticed
+ended-first c old mid new last all opened sorted none taken moved rises same graves told mine swapped noticed order =
+    (
       sorted,
       grave_ends c.graves,
       c.noticed,
       (
-        subst (λ (os : List StillOpen). IsPermutation os sorted) taken moved,
+        subst (λ (os : List Held). IsPermutation os sorted) taken moved,
         rises,
         subst (λ (s : ClosedState). NoticesMore (ports_in sorted) s.noticed c.noticed) same
             (subst (NoticesMore (ports_in sorted) mid.noticed) (sym (noticed ∙ ap (λ (s : ClosedState). s.noticed) mine)) told),
@@ -141,14 +141,14 @@ ended-first c old mid new last all opened sorted o is none taken moved rises sam
     )
 
 -- more was closed behind
-pub ended-further : (o : Option ClosingState) (graves : List GraveSeat) (all : List StillOpen) (first then : List ℕ) (before between after : List ClosedPort) → AreEnded o graves all first before between → NamedBehind first then between after → AreEnded o graves all then before after
+pub ended-further : (o : Option ClosingState) (graves : List GraveSeat) (all : List Held) (first then : List ℕ) (before between after : List ClosedPort) → AreEnded o graves all first before between → NamedBehind first then between after → AreEnded o graves all then before after
 ended-further None graves all first then before between after told further =
     (told.0, told.1, told.2, told.3, told.4, told.5, behind-twice told.1 first then told.2 between after told.6 further)
 ended-further (Some c) graves all first then before between after told further =
     behind-twice (closing_ends c) first then c.noticed between after told further
 
 -- one more of those that are to be closed was closed
-pub told-more : (all : List StillOpen) (o : StillOpen) (before between after : List ClosedPort) → NoticesMore (ports_in all) before between → NoticesMore (ports_in (o ∷ [])) between after → NoticesMore (ports_in (all ++ o ∷ [])) before after
+pub told-more : (all : List Held) (o : Held) (before between after : List ClosedPort) → NoticesMore (ports_in all) before between → NoticesMore (ports_in (o ∷ [])) between after → NoticesMore (ports_in (all ++ o ∷ [])) before after
 told-more all o before between after first more =
     subst (λ ps. NoticesMore ps before after) (sym (filter_map-append open_port all (o ∷ [])))
     (notices-twice (ports_in all) (ports_in (o ∷ [])) before between after first more)
@@ -161,22 +161,25 @@ same-loop l holding kept fetched closing h k f c =
     (subst (λ x. record l { fetched = x; closing = closing } ≡ l) (sym f)
     (subst (λ x. record l { closing = x } ≡ l) (sym c) refl)))
 
+-- what follows from what is so after an error
+pub on-err-then : {A E : Type 0} {P Q : Type 0} (r : Result A E) → OnErr r P → (P → Q) → OnErr r Q
+on-err-then (Ok x) holds then = tt
+on-err-then (Err x) holds then = then holds
+
 pub on-err : {A E : Type 0} {P : Type 0} (r : Result A E) → P → OnErr r P
 on-err (Ok x) holds = tt
 on-err (Err x) holds = holds
 
 -- the grave has the number of the end
-grave-of : (o : StillOpen) (c : ClosedEnd) → IsOpenClosed o c → c.grave.end ∷ [] ≡ open_ends (o ∷ [])
-grave-of (still.Held (Port p)) c closed = ap (λ (g : GraveSeat). g.end ∷ []) closed.0
-grave-of (still.Held (Client t)) c closed = ap (λ (g : GraveSeat). g.end ∷ []) closed.0
-grave-of (still.Held (Worker t)) c closed = ap (λ (g : GraveSeat). g.end ∷ []) closed.0
-grave-of (still.Held (Member m)) c closed = ap (λ (g : GraveSeat). g.end ∷ []) closed.0
-grave-of (still.Held (Line s)) c closed = absurd closed
-grave-of (still.Queue q) c closed = ap (λ (g : GraveSeat). g.end ∷ []) closed.0
-grave-of (still.Arrived p) c closed = ap (λ (g : GraveSeat). g.end ∷ []) closed.0
+grave-of : (o : Held) (c : ClosedEnd) → IsEndClosed o c → c.grave.end ∷ [] ≡ open_ends (o ∷ [])
+grave-of (Port p) c closed = ap (λ (g : GraveSeat). g.end ∷ []) closed.0
+grave-of (Client t) c closed = ap (λ (g : GraveSeat). g.end ∷ []) closed.0
+grave-of (Worker t) c closed = ap (λ (g : GraveSeat). g.end ∷ []) closed.0
+grave-of (Member m) c closed = ap (λ (g : GraveSeat). g.end ∷ []) closed.0
+grave-of (Line s) c closed = absurd closed
 
 -- one grave more
-pub buries : (o : StillOpen) (c : ClosedEnd) (before after : List GraveSeat) → IsOpenClosed o c → after ≡ before ++ c.grave ∷ [] → grave_ends after ≡ grave_ends before ++ open_ends (o ∷ [])
+pub buries : (o : Held) (c : ClosedEnd) (before after : List GraveSeat) → IsEndClosed o c → after ≡ before ++ c.grave ∷ [] → grave_ends after ≡ grave_ends before ++ open_ends (o ∷ [])
 buries o c before after closed more =
     ap grave_ends more ∙ map_push (λ (g : GraveSeat). g.end) before c.grave ∙ ap (λ ns. grave_ends before ++ ns) (grave-of o c closed)
 
@@ -188,20 +191,18 @@ port-closed p port before after (told, is, closed) more = notices-one p told bef
 alone-closed : (port : Option ClosedPort) (before after : List ClosedPort) → port ≡ None → after ≡ before ++ option_to_list port → NoticesMore [] before after
 alone-closed port before after none more = notices-none before after (more ∙ ap (λ o. before ++ option_to_list o) none ∙ append-nil before)
 
-pub notices-closed : (o : StillOpen) (c : ClosedEnd) (before after : List ClosedPort) → IsOpenClosed o c → after ≡ before ++ option_to_list c.port → NoticesMore (ports_in (o ∷ [])) before after
-notices-closed (still.Held (Port p)) c before after closed more = port-closed p c.port before after closed.1 more
-notices-closed (still.Held (Client t)) c before after closed more = alone-closed c.port before after closed.1 more
-notices-closed (still.Held (Worker t)) c before after closed more = alone-closed c.port before after closed.1 more
-notices-closed (still.Held (Member m)) c before after closed more = alone-closed c.port before after closed.1 more
-notices-closed (still.Held (Line s)) c before after closed more = absurd closed
-notices-closed (still.Queue q) c before after closed more = alone-closed c.port before after closed.1 more
-notices-closed (still.Arrived p) c before after closed more = port-closed p c.port before after closed.1 more
+pub notices-closed : (o : Held) (c : ClosedEnd) (before after : List ClosedPort) → IsEndClosed o c → after ≡ before ++ option_to_list c.port → NoticesMore (ports_in (o ∷ [])) before after
+notices-closed (Port p) c before after closed more = port-closed p c.port before after closed.1 more
+notices-closed (Client t) c before after closed more = alone-closed c.port before after closed.1 more
+notices-closed (Worker t) c before after closed more = alone-closed c.port before after closed.1 more
+notices-closed (Member m) c before after closed more = alone-closed c.port before after closed.1 more
+notices-closed (Line s) c before after closed more = absurd closed
 
 -- the line that comes back was closed to nothing
-pub lines-stay : (o : StillOpen) (s : StandSeat) (before : List GraveSeat) → o ≡ still.Held (Line s) → grave_ends before ≡ grave_ends before ++ open_ends (o ∷ [])
+pub lines-stay : (o : Held) (s : StandSeat) (before : List GraveSeat) → o ≡ Line s → grave_ends before ≡ grave_ends before ++ open_ends (o ∷ [])
 lines-stay o s before is = subst (λ x. grave_ends before ≡ grave_ends before ++ open_ends (x ∷ [])) (sym is) (sym (append-nil (grave_ends before)))
 
-pub notices-line : (o : StillOpen) (s : StandSeat) (before after : List ClosedPort) → o ≡ still.Held (Line s) → after ≡ before → NoticesMore (ports_in (o ∷ [])) before after
+pub notices-line : (o : Held) (s : StandSeat) (before after : List ClosedPort) → o ≡ Line s → after ≡ before → NoticesMore (ports_in (o ∷ [])) before after
 notices-line o s before after is same = subst (λ x. NoticesMore (ports_in (x ∷ [])) before after) (sym is) (notices-none before after same)
 
 pub if-none : {A : Type 0} {P : Type 0} (r : Option A) → P → IfNone r P

@@ -5,15 +5,12 @@ use Rattle.slab.specs.Slab.{Slab}
 use Rattle.hub_envelope.specs.declared.ids.EndId.{EndId}
 use Rattle.hub_broadcast.specs.Destinations.{is_of_end}
 use Rattle.hub_broadcast.specs.Members.{SubscriptionSeat}
-use Rattle.hub_clients.specs.Handing.{taker_of}
 use Rattle.hub_ports.specs.Seats.{PortSeat}
 use Rattle.hub_queue.specs.Ending.{IsClosed}
 use Rattle.hub_queue.specs.Taking.{TakerSeat}
 use Rattle.hub_loop.specs.declared.closed.ClosedEnd.{ClosedEnd}
 use Rattle.hub_ports.specs.declared.closing.ClosedPort.{ClosedPort}
 use Rattle.hub_loop.specs.declared.ending.Closed.{Closed}
-use Rattle.hub_loop.specs.declared.ending.StillOpen.{StillOpen}
-use Rattle.hub_loop.specs.declared.ending.StillOpen.TheVariants as still
 use Rattle.hub_loop.specs.declared.held.Held.{Held}
 use Rattle.hub_loop.specs.declared.held.Held.TheVariants.{Port, Client, Worker, Member, Line}
 use Rattle.hub_loop.specs.Adopting.{HoldsMore}
@@ -35,11 +32,6 @@ IsEndClosed (Client t) c = IsClosedAlone t c
 IsEndClosed (Worker t) c = IsClosedAlone t c
 IsEndClosed (Member m) c = IsClosedAlone m.taker c
 IsEndClosed (Line s) c = ⊥
-
-abbrev pub IsOpenClosed : StillOpen → ClosedEnd → Type 0
-IsOpenClosed (still.Held h) c = IsEndClosed h c
-IsOpenClosed (still.Queue q) c = IsClosedAlone (taker_of q) c
-IsOpenClosed (still.Arrived p) c = IsPortClosed p c
 
 -- there is room for so many more graves, notices and lines
 abbrev pub HasRoom : Closed → ℕ → Type 0

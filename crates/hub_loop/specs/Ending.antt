@@ -2,15 +2,12 @@
 use Rattle.std.specs.Prelude.{ℕ, ◌==◌, Bool, false, List, [], ◌++◌, map, filter_map, Option, Some, None}
 use Rattle.slab.specs.Slab.{Slab, entries}
 use Rattle.hub_clients.specs.declared.handed.HandedQueue.{HandedQueue}
-use Rattle.hub_clients.specs.Handing.{taker_of}
-use Rattle.hub_envelope.specs.declared.ids.EndId.{EndId}
-use Rattle.hub_ports.specs.Seats.{PortSeat, end_of}
+use Rattle.hub_ports.specs.Seats.{PortSeat}
 use Rattle.hub_queue.specs.Graves.{GraveSeat, SweptSeat}
 use Rattle.hub_queue.specs.Taking.{TakerSeat}
-use Rattle.hub_loop.specs.declared.ending.StillOpen.{StillOpen}
-use Rattle.hub_loop.specs.declared.ending.StillOpen.TheVariants as still
 use Rattle.hub_loop.specs.declared.held.Held.{Held}
-use Rattle.hub_loop.specs.Holding.{number_held, seat_of}
+use Rattle.hub_loop.specs.declared.held.Held.TheVariants.{Port}
+use Rattle.hub_loop.specs.Holding.{held_queue, seat_of}
 use Rattle.hub_loop.specs.States.{ClosingState, DeliveryState, ReceivingState}
 
 -- whoever takes here takes from the end of this number
@@ -33,24 +30,12 @@ found_of None = []
 found_of (Some d) = ports_found d.arrival
 
 -- What is closed when a loop ends: what is held, in the order of the keys, the queues that were fetched, and the ports that were found for a kept delivery.
-abbrev pub still_open : Slab Held → List HandedQueue → Option DeliveryState → List StillOpen
-still_open held fetched kept = map (λ entry. still.Held entry.1) (entries held) ++ map still.Queue fetched ++ map still.Arrived (found_of kept)
-
--- the number of the end, or of the end at which the line posts
-abbrev pub open_number : StillOpen → EndId
-open_number (still.Held h) = number_held h
-open_number (still.Queue q) = record { 0 = (taker_of q).end }
-open_number (still.Arrived p) = end_of p
-
--- whoever takes from it; a line is no end
-abbrev pub open_seat : StillOpen → Option TakerSeat
-open_seat (still.Held h) = seat_of h
-open_seat (still.Queue q) = Some (taker_of q)
-open_seat (still.Arrived p) = Some p.taker
+abbrev pub still_open : Slab Held → List HandedQueue → Option DeliveryState → List Held
+still_open held fetched kept = map (λ entry. entry.1) (entries held) ++ map held_queue fetched ++ map Port (found_of kept)
 
 -- the numbers of the ends among these
-abbrev pub open_ends : List StillOpen → List ℕ
-open_ends all = map (λ t. t.end) (filter_map open_seat all)
+abbrev pub open_ends : List Held → List ℕ
+open_ends all = map (λ t. t.end) (filter_map seat_of all)
 
 -- the numbers of the ends that were swept
 abbrev pub swept_ends : List SweptSeat → List ℕ

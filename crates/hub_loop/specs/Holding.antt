@@ -1,11 +1,18 @@
 -- What a loop holds.
 use Rattle.std.specs.Prelude.{ℕ, List, Option, Some, None, length, filter_map}
 use Rattle.slab.specs.Slab.{Slab, entries}
+use Rattle.hub_clients.specs.declared.handed.HandedQueue.{HandedQueue}
+use Rattle.hub_clients.specs.declared.handed.HandedQueue.TheVariants as handed
 use Rattle.hub_envelope.specs.declared.ids.EndId.{EndId}
 use Rattle.hub_queue.specs.Standing.{StandSeat}
 use Rattle.hub_queue.specs.Taking.{TakerSeat}
 use Rattle.hub_loop.specs.declared.held.Held.{Held}
 use Rattle.hub_loop.specs.declared.held.Held.TheVariants.{Port, Client, Worker, Member, Line}
+
+-- a queue that was handed, as an end that is held
+abbrev pub held_queue : HandedQueue → Held
+held_queue (handed.Client t) = Client t
+held_queue (handed.Worker t) = Worker t
 
 -- whoever takes from the end; a line is no end
 abbrev pub seat_of : Held → Option TakerSeat

@@ -5,10 +5,10 @@ use Rattle.hub_ports.specs.Seats.{PortSeat}
 use Rattle.hub_ports.specs.declared.closing.ClosedPort.{ClosedPort}
 use Rattle.std.specs.List.Sorted.{IsNonDecreasing, IsNonDecreasingBy, IsPermutation}
 use Rattle.hub_queue.specs.Graves.{GraveSeat}
-use Rattle.hub_loop.specs.declared.ending.StillOpen.{StillOpen}
-use Rattle.hub_loop.specs.declared.ending.StillOpen.TheVariants as still
+use Rattle.hub_loop.specs.declared.held.Held.{Held}
 use Rattle.hub_loop.specs.declared.held.Held.TheVariants.{Port, Client, Worker, Member, Line}
-use Rattle.hub_loop.specs.Ending.{closing_ends, grave_ends, open_ends, open_number}
+use Rattle.hub_loop.specs.Ending.{closing_ends, grave_ends, open_ends}
+use Rattle.hub_loop.specs.Holding.{number_held}
 use Rattle.hub_loop.specs.States.{ClosingState}
 
 -- each of these ports was closed, in this order
@@ -20,18 +20,16 @@ AreTold (p ∷ ps) told = (c : ClosedPort) × (rest : List ClosedPort) × (told 
 abbrev pub NoticesMore : List PortSeat → List ClosedPort → List ClosedPort → Type 0
 NoticesMore ports before after = (told : List ClosedPort) × (after ≡ before ++ told) × AreTold ports told
 
--- the port that is closed when a loop ends, where it is one
-abbrev pub open_port : StillOpen → Option PortSeat
-open_port (still.Held (Port p)) = Some p
-open_port (still.Held (Client t)) = None
-open_port (still.Held (Worker t)) = None
-open_port (still.Held (Member m)) = None
-open_port (still.Held (Line s)) = None
-open_port (still.Queue q) = None
-open_port (still.Arrived p) = Some p
+-- the port, where it is one
+abbrev pub open_port : Held → Option PortSeat
+open_port (Port p) = Some p
+open_port (Client t) = None
+open_port (Worker t) = None
+open_port (Member m) = None
+open_port (Line s) = None
 
 -- the ports among these
-abbrev pub ports_in : List StillOpen → List PortSeat
+abbrev pub ports_in : List Held → List PortSeat
 ports_in all = filter_map open_port all
 
 -- the numbers of the ports
@@ -39,9 +37,9 @@ abbrev pub port_numbers : List PortSeat → List ℕ
 port_numbers ports = map (λ p. p.taker.end) ports
 
 -- All of these were closed, in this order, which is a rising one of the numbers, and of each port among them the notice is told.
-abbrev pub AreClosed : List StillOpen → List StillOpen → List ClosedPort → List ClosedPort → Type 0
+abbrev pub AreClosed : List Held → List Held → List ClosedPort → List ClosedPort → Type 0
 AreClosed all sorted before after =
-    IsPermutation all sorted × IsNonDecreasingBy (λ o. (open_number o).0) sorted × NoticesMore (ports_in sorted) before after
+    IsPermutation all sorted × IsNonDecreasingBy (λ o. (number_held o).0) sorted × NoticesMore (ports_in sorted) before after
 
 -- Ports that were named were closed behind these ends: they are swept in the order in which their notices are told.
 abbrev pub NamedBehind : List ℕ → List ℕ → List ClosedPort → List ClosedPort → Type 0
@@ -49,9 +47,9 @@ NamedBehind closed numbers before after =
     (named : List PortSeat) × (numbers ≡ closed ++ port_numbers named) × NoticesMore named before after
 
 -- The numbers begin with those of the ends that the loop had closed before and those that it had, one for each, in rising order, and go on with those of the ports that were named. The notices are those that were told already, then those of the ports that the loop had, and then those of the ports that were named. Where the end had begun before, both go on from what was done by then.
-abbrev pub AreEnded : Option ClosingState → List GraveSeat → List StillOpen → List ℕ → List ClosedPort → List ClosedPort → Type 0
+abbrev pub AreEnded : Option ClosingState → List GraveSeat → List Held → List ℕ → List ClosedPort → List ClosedPort → Type 0
 AreEnded None graves all numbers before after =
-    (sorted : List StillOpen) × (first : List ℕ) × (between : List ClosedPort)
+    (sorted : List Held) × (first : List ℕ) × (between : List ClosedPort)
     × AreClosed all sorted before between
     × IsPermutation (grave_ends graves ++ open_ends sorted) first × IsNonDecreasing first
     × NamedBehind first numbers between after

@@ -23,7 +23,7 @@ ghost use Rattle.hub_loop.specs.Marking.{MarksKept};
 ghost use Rattle.hub_loop.specs.States.{holding_of};
 ghost use Rattle.hub_ready.specs.Marking.{HasBit};
 
-use crate::closed::close_arrived;
+use crate::closed::close_port;
 use crate::delivery::Receiving;
 use crate::ends::Holding;
 use crate::held::Held;
@@ -130,7 +130,7 @@ impl Holding {
                 Err(OutOfMemory)
             }
             Err((AdoptError::TooManyMoves | AdoptError::Taken, arrived)) => {
-                let (grave, port) = close_arrived(rt, hub, arrived);
+                let (grave, port) = close_port(rt, hub, arrived.into_port());
                 self.closed.add_closed_port(grave, port);
                 receiving.missing.push_reserved(end);
                 Ok(true)

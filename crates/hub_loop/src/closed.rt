@@ -2,7 +2,7 @@ ghost use Rattle.std.specs.Prelude.{◌≡◌, Some, None};
 ghost use Rattle.hub_ports.specs.Closing.{IsTold};
 ghost use Rattle.hub_queue.specs.Ending.{IsClosed};
 
-use hub_ports::{Arrived, ClosedPort, Hub, Port};
+use hub_ports::{ClosedPort, Hub, Port};
 use hub_queue::Grave;
 use std::sync::Wait;
 
@@ -13,16 +13,6 @@ pub(crate) fn close_port<R: Wait>(rt: &R, hub: &Hub, port: Port) -> (Grave, Clos
 {
     let end = port.id();
     let (grave, spent, noticed) = port.close(rt, hub);
-    (grave, ClosedPort::new(end, spent, noticed))
-}
-
-/// Closes a port that was received, as `close_port` does.
-pub(crate) fn close_arrived<R: Wait>(rt: &R, hub: &Hub, arrived: Arrived) -> (Grave, ClosedPort)
-    ensures grave { IsClosed arrived.taker result.0 }
-    ensures told { IsTold arrived result.1 }
-{
-    let end = arrived.id();
-    let (grave, spent, noticed) = arrived.close(rt, hub);
     (grave, ClosedPort::new(end, spent, noticed))
 }
 

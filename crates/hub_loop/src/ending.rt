@@ -15,34 +15,30 @@ ghost use Rattle.std.specs.Prelude.{
   IfErr,
   IfOk,
   OnErr,
+  None,
   OnOk,
   vec_len,
   vec_capacity,
 };
 ghost use Rattle.std.specs.VecDeque.{deque_len};
-ghost use Rattle.hub_loop.specs.Closing.{HasRoom, IsOpenClosed};
+ghost use Rattle.hub_loop.specs.Closing.{HasRoom};
 ghost use Rattle.hub_loop.specs.Ending.{
   closing_ends,
   found_of,
   grave_ends,
   open_ends,
-  open_number,
   still_open,
   swept_ends,
 };
+ghost use Rattle.hub_loop.specs.Holding.{held_queue};
 ghost use Rattle.hub_loop.specs.Looping.{HasEnded, HasPaused};
-ghost use Rattle.hub_loop.specs.Noticing.{ports_in, NoticesMore};
+ghost use Rattle.hub_loop.specs.Noticing.{ports_in, AreEnded, NoticesMore};
 ghost use Rattle.hub_loop.specs.States.{closed_of, holding_of};
-ghost use Rattle.hub_loop.specs.declared.ending.StillOpen.TheVariants.{
-  Held as HeldOpen,
-  Queue as QueueOpen,
-  Arrived as ArrivedOpen,
-};
-ghost use Rattle.hub_loop.specs.declared.held.Held.TheVariants.{Line as LineHeld};
+ghost use Rattle.hub_loop.specs.declared.held.Held.TheVariants.{Port as PortHeld};
 
-use crate::closed::{ClosedEnd, close_arrived};
+use crate::closed::ClosedEnd;
 use crate::delivery::Undelivered;
-use crate::ends::{HeldEnds, Holding};
+use crate::ends::Holding;
 use crate::error::LoopError;
 use crate::event_loop::EventLoop;
 use crate::handler::{Checkpoint, Handler};
@@ -59,43 +55,6 @@ use std::alloc::Global;
 use std::collections::VecDeque;
 use std::mem::replace;
 use std::sync::Wait;
-
-/// What is closed when a loop ends.
-#[derive(Drop)]
-pub(crate) enum StillOpen {
-    Held(Held),
-    /// A queue that was fetched and not yet adopted.
-    Queue(HandedQueue),
-    /// A port that was received and not yet adopted.
-    Arrived(Arrived),
-}
-
-impl StillOpen {
-    /// The number of the end, or of the end at which the line posts.
-    pub(crate) fn id(&self) -> EndId
-        ensures { result ≡ open_number self.now }
-    {
-        match self {
-            StillOpen::Held(held) => held.id(),
-            StillOpen::Queue(queue) => queue.id(),
-            StillOpen::Arrived(arrived) => arrived.id(),
-        }
-    }
-
-    /// Closes it, a port with its notice. A line comes back.
-    fn close<R: Wait>(self, rt: &R, hub: &Hub) -> Result<ClosedEnd, Poster>
-        ensures ok { IfOk result (IsOpenClosed self) }
-        ensures err { IfErr result (λ line. self ≡ HeldOpen (LineHeld line)) }
-    {
-        match self {
-            StillOpen::Held(held) => held.close_without_roster(rt, hub),
-            StillOpen::Queue(queue) => Ok(ClosedEnd::without_port(queue.close())),
-            StillOpen::Arrived(arrived) => {
-                Ok(ClosedEnd::with_port(close_arrived(rt, hub, arrived)))
-            }
-        }
-    }
-}
 
 /// What has become of ends that were closed, and the lines that were held beside them.
 #[derive(Drop)]
@@ -141,7 +100,7 @@ impl Closed {
     }
 
     /// Closes an end, or keeps a line.
-    fn close_and_record<R: Wait>(&mut self, rt: &R, hub: &Hub, opened: StillOpen)
+    fn close_and_record<R: Wait>(&mut self, rt: &R, hub: &Hub, opened: Held)
         requires { HasRoom self.old 1 }
         ensures graves { grave_ends self.new.graves.items
             ≡ grave_ends self.old.graves.items ++ open_ends (opened ∷ []) }
@@ -149,7 +108,7 @@ impl Closed {
             self.new.noticed.items }
         ensures room { (more : ℕ) → HasRoom self.old (more + 1) → HasRoom self.new more }
     {
-        match opened.close(rt, hub) {
+        match opened.close_without_roster(rt, hub) {
             Ok(ClosedEnd { grave, port }) => match port {
                 Some(port) => self.add_closed_port(grave, port),
                 None => self.graves.push_reserved(grave),
@@ -159,7 +118,7 @@ impl Closed {
     }
 
     /// Closes these, in order. There is room for what they are closed to.
-    pub(crate) fn close_and_record_all<R: Wait>(&mut self, rt: &R, hub: &Hub, all: Vec<StillOpen>)
+    pub(crate) fn close_and_record_all<R: Wait>(&mut self, rt: &R, hub: &Hub, all: Vec<Held>)
         requires { HasRoom self.old (vec_len all) }
         ensures graves { grave_ends self.new.graves.items
             ≡ grave_ends self.old.graves.items ++ open_ends all.items }
@@ -174,11 +133,9 @@ impl Closed {
 
 /// Takes the members among these out of the roster, before the first end is closed: nobody casts at
 /// a member of an agent whose queue is closed already.
-pub(crate) fn leave_roster<L: Lends<Roster>, R: Wait>(rt: &R, roster: &mut L, all: &[StillOpen]) {
+pub(crate) fn leave_roster<L: Lends<Roster>, R: Wait>(rt: &R, roster: &mut L, all: &[Held]) {
     for opened in all {
-        if let StillOpen::Held(held) = opened {
-            held.remove_from_roster(rt, roster);
-        }
+        opened.remove_from_roster(rt, roster);
     }
 }
 
@@ -227,38 +184,38 @@ fn take_found_ports(alloc: Global, kept: &mut Option<Undelivered>) -> VecDeque<A
 }
 
 /// Puts what was held to what is to be closed. There is room for it.
-fn add_held_ends(held: Slab<Held>, opened: &mut Vec<StillOpen>)
+fn add_held_ends(held: Slab<Held>, opened: &mut Vec<Held>)
     requires { vec_len opened.old + length (entries held) ≤ vec_capacity opened.old }
     ensures items { opened.new.items
-        ≡ opened.old.items ++ map (λ entry. HeldOpen entry.1) (entries held) }
+        ≡ opened.old.items ++ map (λ entry. entry.1) (entries held) }
     ensures len { vec_len opened.new ≡ vec_len opened.old + length (entries held) }
     ensures capacity { vec_capacity opened.new ≡ vec_capacity opened.old }
 {
     for (_, held) in held {
-        opened.push_reserved(StillOpen::Held(held));
+        opened.push_reserved(held);
     }
 }
 
 /// The same of the queues that were fetched.
-fn add_fetched_queues(queues: Vec<HandedQueue>, opened: &mut Vec<StillOpen>)
+fn add_fetched_queues(queues: Vec<HandedQueue>, opened: &mut Vec<Held>)
     requires { vec_len opened.old + vec_len queues ≤ vec_capacity opened.old }
-    ensures items { opened.new.items ≡ opened.old.items ++ map QueueOpen queues.items }
+    ensures items { opened.new.items ≡ opened.old.items ++ map held_queue queues.items }
     ensures len { vec_len opened.new ≡ vec_len opened.old + vec_len queues }
     ensures capacity { vec_capacity opened.new ≡ vec_capacity opened.old }
 {
     for queue in queues {
-        opened.push_reserved(StillOpen::Queue(queue));
+        opened.push_reserved(Held::from(queue));
     }
 }
 
 /// The same of the ports that were found.
-fn add_found_ports(found: VecDeque<Arrived>, opened: &mut Vec<StillOpen>)
+fn add_found_ports(found: VecDeque<Arrived>, opened: &mut Vec<Held>)
     requires { vec_len opened.old + deque_len found ≤ vec_capacity opened.old }
-    ensures items { opened.new.items ≡ opened.old.items ++ map ArrivedOpen found.items }
+    ensures items { opened.new.items ≡ opened.old.items ++ map PortHeld found.items }
     ensures len { vec_len opened.new ≡ vec_len opened.old + deque_len found }
 {
     for arrived in found {
-        opened.push_reserved(StillOpen::Arrived(arrived));
+        opened.push_reserved(Held::Port(arrived.into_port()));
     }
 }
 
@@ -266,12 +223,12 @@ impl Holding {
     /// Takes out all that is to be closed: what is held, the queues that were fetched, and the
     /// ports that were found for a kept delivery. The room for them, and for what they are closed
     /// to, is made before anything is moved.
-    pub(crate) fn take_all_to_close(
+    fn take_all_to_close(
         &mut self,
         alloc: Global,
         fetched: &mut Vec<HandedQueue>,
         kept: &mut Option<Undelivered>,
-    ) -> Result<Vec<StillOpen>, OutOfMemory>
+    ) -> Result<Vec<Held>, OutOfMemory>
         ensures taken { IfOk result (λ opened. opened.items
             ≡ still_open self.old.ends.held fetched.old.items kept.old) }
         ensures room { IfOk result (λ opened. HasRoom self.new.closed (vec_len opened)) }
@@ -282,16 +239,35 @@ impl Holding {
         let count = count_all_to_close(&self.ends.held, fetched.as_slice(), kept)?;
         let mut opened = Vec::with_capacity(alloc, count)?;
         self.closed.reserve(count)?;
-        let HeldEnds {
-            held,
-            next: _,
-            ready: _,
-            lines: _,
-        } = replace(&mut self.ends, HeldEnds::new(alloc));
-        add_held_ends(held, &mut opened);
+        add_held_ends(self.ends.take_all_held(alloc), &mut opened);
         add_fetched_queues(replace(fetched, Vec::new(alloc)), &mut opened);
         add_found_ports(take_found_ports(alloc, kept), &mut opened);
         Ok(opened)
+    }
+
+    /// Closes all that is to be closed, in rising order of the numbers. After an error nothing has
+    /// changed.
+    fn close_all<L: Lends<Roster>, R: Wait>(
+        &mut self,
+        rt: &R,
+        hub: &Hub,
+        alloc: Global,
+        roster: &mut L,
+        fetched: &mut Vec<HandedQueue>,
+        kept: &mut Option<Undelivered>,
+    ) -> Result<Shutdown, OutOfMemory>
+        ensures ok { IfOk result (λ closing. AreEnded None (closed_of self.old.closed).graves
+            (still_open self.old.ends.held fetched.old.items kept.old) (closing_ends closing)
+            (closed_of self.old.closed).noticed closing.noticed) }
+        ensures err { OnErr result ((holding_of self.new ≡ holding_of self.old)
+            × (fetched.new.items ≡ fetched.old.items) × (kept.new ≡ kept.old)) }
+    {
+        let mut opened = self.take_all_to_close(alloc, fetched, kept)?;
+        opened.sort_unstable_by_key(|open| open.id().0);
+        leave_roster(rt, roster, opened.as_slice());
+        self.closed.close_and_record_all(rt, hub, opened);
+        let closed = replace(&mut self.closed, Closed::new(alloc));
+        Ok(Shutdown::new(alloc, closed))
     }
 }
 
@@ -349,13 +325,13 @@ impl<H: Handler + Drop, C: Checkpoint + Drop> EventLoop<H, C> {
         if let Some(closing) = self.closing.take() {
             return Ok(closing);
         }
-        let mut opened = self
-            .holding
-            .take_all_to_close(self.alloc, &mut self.fetched, &mut self.kept)?;
-        opened.sort_unstable_by_key(|open| open.id().0);
-        leave_roster(rt, roster, opened.as_slice());
-        self.holding.closed.close_and_record_all(rt, hub, opened);
-        let closed = replace(&mut self.holding.closed, Closed::new(self.alloc));
-        Ok(Shutdown::new(self.alloc, closed))
+        self.holding.close_all(
+            rt,
+            hub,
+            self.alloc,
+            roster,
+            &mut self.fetched,
+            &mut self.kept,
+        )
     }
 }

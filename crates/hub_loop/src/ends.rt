@@ -11,6 +11,7 @@ use hub_ready::Ready;
 use slab::Slab;
 use std::alloc::Global;
 use std::collections::BTreeSet;
+use std::mem::replace;
 
 /// The ends and the lines that a loop holds.
 #[derive(Drop)]
@@ -38,6 +39,21 @@ impl HeldEnds {
             ready: Ready::new(alloc),
             lines: BTreeSet::new(alloc),
         }
+    }
+
+    /// Takes out all that is held.
+    pub(crate) fn take_all_held(&mut self, alloc: Global) -> Slab<Held>
+        ensures { result ≡ self.old.held }
+    {
+        let HeldEnds {
+            held,
+            next: _,
+            ready,
+            lines,
+        } = replace(self, HeldEnds::new(alloc));
+        drop(ready);
+        drop(lines);
+        held
     }
 }
 

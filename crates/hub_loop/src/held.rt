@@ -17,7 +17,7 @@ ghost use Rattle.hub_loop.specs.declared.held.Held.TheVariants.{
 
 use crate::closed::{ClosedEnd, close_port};
 use hub_broadcast::{Member, Roster, leave_lent_roster};
-use hub_clients::{ClientQueue, WorkerQueue};
+use hub_clients::{ClientQueue, HandedQueue, WorkerQueue};
 use hub_envelope::EndId;
 use hub_locked::Lends;
 use hub_ports::{Hub, Port};
@@ -43,6 +43,20 @@ pub(crate) enum Sought {
     Port,
     Client,
     Member,
+}
+
+impl From<HandedQueue> for Held {
+    ghost use Rattle.std.specs.Prelude.{◌≡◌};
+    ghost use Rattle.hub_loop.specs.Holding.{held_queue};
+
+    fn from(queue: HandedQueue) -> Held
+        ensures { result ≡ held_queue queue }
+    {
+        match queue {
+            HandedQueue::Client(queue) => Held::Client(queue),
+            HandedQueue::Worker(queue) => Held::Worker(queue),
+        }
+    }
 }
 
 impl Held {

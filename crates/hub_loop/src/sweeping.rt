@@ -5,7 +5,7 @@ ghost use Rattle.std.specs.List.Sorted.{IsNonDecreasing, IsPermutation};
 ghost use Rattle.hub_loop.specs.Ending.{grave_ends, swept_ends, closing_ends};
 ghost use Rattle.hub_loop.specs.Noticing.{NamedBehind};
 
-use crate::closed::close_arrived;
+use crate::closed::close_port;
 use crate::delivery::Undelivered;
 use crate::ending::Closed;
 use hub_clients::Directory;
@@ -121,7 +121,7 @@ fn close_found_ports<R: Wait>(
         graves.reserve(1)?;
         noticed.reserve(1)?;
         let arrived = found.pop_front().unwrap();
-        let (grave, port) = close_arrived(rt, hub, arrived);
+        let (grave, port) = close_port(rt, hub, arrived.into_port());
         graves.push_back_reserved(grave);
         noticed.push_reserved(port);
     }

@@ -26,8 +26,7 @@ pub struct Arrived {
 // By hand, so that whoever drops one makes one call, and its proof has no cases of its fields.
 impl Drop for Arrived {
     fn drop(self) {
-        let Arrived { port } = self;
-        drop(port);
+        drop(self.into_port());
     }
 }
 

@@ -1,4 +1,4 @@
-use Rattle.std.proofs.Common.{◌≡◌, rules, inl, inr, subst}
+use Rattle.std.proofs.Common.{◌≡◌, ◌∙◌, rules, inl, inr, subst}
 use Rattle.hub_loop.specs.Adopting.{IsPortBuried, IsUnfit}
 use Rattle.hub_loop.specs.States.{closed_of}
 use Rattle.hub_loop.specs.declared.held.Held.TheVariants.{Port}
@@ -30,7 +30,7 @@ returns-in-Err-TooManyMoves-default-clause-adopted g c =
     let unfit : IsUnfit error = search rules in
     let came : c.in-Err-TooManyMoves-default.arrived ≡ p = c.in-Err-TooManyMoves-default.ensures.1 in
     let received = subst (λ q. IsReceived p (Err (error, q))) came c.in-Err-TooManyMoves-default.ensures in
-    let closed = c.close_arrived-grave in
-    let buried = subst (λ q. IsPortBuried q (closed_of mid.closed) (closed_of c.add_closed_port.new.self)) came (closed.result.0, closed.result.1, closed.ensures.grave, closed.ensures.told, c.add_closed_port.ensures.graves, c.add_closed_port.ensures.noticed) in
+    let closed = c.close_port-grave in
+    let buried = subst (λ q. IsPortBuried q (closed_of mid.closed) (closed_of c.add_closed_port.new.self)) (c.into_port.ensures ∙ came) (closed.result.0, closed.result.1, closed.ensures.grave, closed.ensures.told, c.add_closed_port.ensures.graves, c.add_closed_port.ensures.noticed) in
     let same = c.prepare.ensures.same in
     (p, search rules, inr (error, unfit, received, same.held, buried-after p (closed_of old.closed) (closed_of mid.closed) (closed_of c.add_closed_port.new.self) same.closed buried, search rules))

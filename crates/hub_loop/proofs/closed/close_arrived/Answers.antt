@@ -1,5 +1,0 @@
-use Rattle.hub_ports.proofs.Dooms.{told_one}
-use Rattle.hub_loop.proofs.closed.close_arrived.Goals as goal
-
-pub returns-clause-told : goal.returns-clause-told
-returns-clause-told g c = told_one c.args.arrived c.close-grave.result.1 c.id-end.result c.close-grave.result.2 c.new.result c.new.ensures c.id-end.ensures c.close-grave.ensures.notice
