@@ -219,14 +219,14 @@ class Costs(support.TestCase):
 
 class Functions(support.TestCase):
     def test_times(self):
-        """A function takes what passes behind the one before it, whatever is said between."""
-        lines = ["checked a, 1 of 3\n", "note: b\n", "checked b, 2 of 3\n",
-                 "checked c::{closure}, 3 of 3\n", "b: proved\n"]
-        clock = iter([0, 4, 6, 7]).__next__
-        found = tool("functions").times_of(lines, clock)
-        self.assertEqual(found, (4, [(2, "b"), (1, "c::{closure}")]))
-        self.assertEqual(tool("functions").times_of([], lambda: 0), (0, []))
-        self.says(2, "outputs")
+        """A function takes what its modules take, each behind the one that was kept before it."""
+        kept = [(4, "Rattle-a-specs.One.oantt"), (6, "Rattle-a-proofs.b.C.d.Lts.oantt"),
+                (9, "Rattle-a-proofs.b.C.d.Proof.oantt"), (10, "Rattle-a-proofs.Lemmas.oantt"),
+                (14, "Rattle-a-proofs.e.Proof.oantt"), (19, "Rattle-a-proofs.b.C.oantt")]
+        found = tool("functions").times_of(reversed(kept))
+        self.assertEqual(found, {"b::C::d": 5, "e": 4, "": 6})
+        self.assertEqual(tool("functions").times_of([]), {})
+        self.says(2, "runs")
 
 
 class Build(support.TestCase):

@@ -31,7 +31,7 @@ def crate_here(rtlib):
 
 
 def tell_words(rtlib, jobs):
-    print(*crate_here(rtlib).words(["--jobs", jobs, "--progress"]), sep="\n")
+    print(*crate_here(rtlib).words(["--jobs", jobs]), sep="\n")
     return 0
 
 
