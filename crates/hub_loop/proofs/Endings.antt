@@ -123,22 +123,21 @@ ended-begun c graves all before o is =
 
 -- all was taken out and closed, where nothing had begun
 pub ended-first : (c : ClosingState) (old mid new last : ClosedState) (all opened sorted : List Held) → c.swept ≡ [] → opened ≡ all → IsPermutation opened sorted → IsNonDecreasingBy (λ one. (number_held one).0) sorted → mid ≡ old → grave_ends new.graves ≡ grave_ends mid.graves ++ open_ends sorted → NoticesMore (ports_in sorted) mid.noticed new.noticed → last ≡ new → IsPermutation (grave_ends last.graves) (grave_ends c.graves) → c.noticed ≡ last.noticed → IsNonDecreasing (grave_ends c.graves) → AreEnded None old.graves all (closing_ends c) old.noticed c.noticed
-ended-first c old mid new last all opened sorted none taken moved rises same graves told mine swapped noticed order =
-    (
-      sorted,
-      grave_ends c.graves,
-      c.noticed,
-      (
-        subst (λ (os : List Held). IsPermutation os sorted) taken moved,
-        rises,
-        subst (λ (s : ClosedState). NoticesMore (ports_in sorted) s.noticed c.noticed) same
-            (subst (NoticesMore (ports_in sorted) mid.noticed) (sym (noticed ∙ ap (λ (s : ClosedState). s.noticed) mine)) told),
-      ),
-      subst (λ ends. IsPermutation ends (grave_ends c.graves))
-          (ap (λ (s : ClosedState). grave_ends s.graves) mine ∙ graves ∙ ap (λ (s : ClosedState). grave_ends s.graves ++ open_ends sorted) same) swapped,
-      order,
-      behind-none (grave_ends c.graves) (closing_ends c) c.noticed c.noticed (ap (λ swept. swept_ends swept ++ grave_ends c.graves) none) refl,
-    )
+ended-first c old mid new last all opened sorted none taken moved rises same graves told mine swapped noticed order = (
+  sorted,
+  grave_ends c.graves,
+  c.noticed,
+  (
+    subst (λ (os : List Held). IsPermutation os sorted) taken moved,
+    rises,
+    subst (λ (s : ClosedState). NoticesMore (ports_in sorted) s.noticed c.noticed) same
+        (subst (NoticesMore (ports_in sorted) mid.noticed) (sym (noticed ∙ ap (λ (s : ClosedState). s.noticed) mine)) told),
+  ),
+  subst (λ ends. IsPermutation ends (grave_ends c.graves))
+      (ap (λ (s : ClosedState). grave_ends s.graves) mine ∙ graves ∙ ap (λ (s : ClosedState). grave_ends s.graves ++ open_ends sorted) same) swapped,
+  order,
+  behind-none (grave_ends c.graves) (closing_ends c) c.noticed c.noticed (ap (λ swept. swept_ends swept ++ grave_ends c.graves) none) refl,
+)
 
 -- more was closed behind
 pub ended-further : (o : Option ClosingState) (graves : List GraveSeat) (all : List Held) (first then : List ℕ) (before between after : List ClosedPort) → AreEnded o graves all first before between → NamedBehind first then between after → AreEnded o graves all then before after
