@@ -21,8 +21,11 @@ TYPE = re.compile(r"^(?:pub(?:\(\w+\))? )?(?:struct|enum|trait|type) (\w+)", re.
 # A definition may take arguments in front of its colon: `pub record IsNext (..) : Type 0 where`.
 WORD = re.compile(r"^(?:\w+ )*pub (?:(?:data|record) )?(?!mod |use )(\S+)", re.MULTILINE)
 
-# A function, and what it is written for; a method is known by that one's name.
+# A function, and what it is written for; a method is known by that one's name, or by its trait's
+# where it is written for a type parameter.
 FUNCTION = re.compile(r"^(?:impl\b(?P<impl>[^{]*)|\s*(?:pub(?:\(\w+\))? )?fn (?P<name>\w+))")
+
+PARAMETER = re.compile(r"[A-Z]")
 
 # Each name that two crates share, with the reason.
 TYPES = {
@@ -101,8 +104,8 @@ def functions_of(path):
         elif found and found["name"]:
             yield f"{owner}{found['name']}"
         elif found:
-            plain = re.sub(r"<[^<>]*>", "", re.sub(r"<[^<>]*>", "", found["impl"]))
-            owner = plain.split()[-1] + "::"
+            plain = re.sub(r"<[^<>]*>", "", re.sub(r"<[^<>]*>", "", found["impl"])).split()
+            owner = plain[0 if PARAMETER.fullmatch(plain[-1]) else -1] + "::"
 
 
 @support.needs("git")
