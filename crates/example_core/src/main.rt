@@ -37,7 +37,7 @@ fn main(rt: HostRuntime) -> io::Result<()> {
     take(&rt, &mut core, Action::Agent(None))?;
     take(&rt, &mut core, Action::Channel(AgentId(0)))?;
     // What is posted at port 0 comes to line 0 of port 1.
-    if let Some(line) = core.line_of_port(EndId(0)) {
+    if let Some(line) = core.line_port_posts_on(EndId(0)) {
         for action in actions(rt.alloc(), line)? {
             take(&rt, &mut core, action)?;
         }

@@ -37,7 +37,7 @@ fn end<R: Wait>(rt: &R, alloc: Global, shared: &Shared, mut event_loop: Loop) ->
             rt,
             &shared.hub,
             &shared.directory,
-            &mut shared.roster.as_locked(),
+            &mut shared.roster.as_lock(),
         )
         .ok()?;
     Some(heard)

@@ -7,11 +7,11 @@ use Rattle.hub_envelope.specs.declared.ids.AgentId.{AgentId}
 use Rattle.hub_envelope.specs.declared.ids.EndId.{EndId}
 use Rattle.hub_envelope.specs.declared.posted.Posted.{Posted}
 use Rattle.hub_broadcast.specs.Members.{SubscriptionSeat}
-use Rattle.hub_clients.specs.Handing.{taker_of}
+use Rattle.hub_clients.specs.Handing.{taker_of, IsHandedAdopted}
 use Rattle.hub_clients.specs.declared.handed.HandedQueue.{HandedQueue}
 use Rattle.hub_clients.specs.declared.handed.HandedQueue.TheVariants as handed
 use Rattle.hub_logging.specs.Notes.{Notes, delivered}
-use Rattle.hub_loop.specs.Adopting.{HoldsMore, IsFetched, IsHeldAs}
+use Rattle.hub_loop.specs.Adopting.{HoldsMore, IsFetched}
 use Rattle.hub_loop.specs.States.{HoldingState}
 use Rattle.hub_loop.specs.Closing.{ClosesEnd}
 use Rattle.hub_loop.specs.declared.posting.Way.{Way}
@@ -21,7 +21,7 @@ use Rattle.hub_loop.specs.declared.handler.Turn.{Turn}
 use Rattle.hub_loop.specs.declared.handler.Turn.TheVariants.{Delivered, Idle, Ending}
 use Rattle.hub_queue.specs.Taking.{TakerSeat}
 use Rattle.hub_loop.specs.Ending.{is_held}
-use Rattle.hub_loop.specs.Holding.{at_stand, end_held}
+use Rattle.hub_loop.specs.Holding.{at_stand, end_held, held_queue}
 use Rattle.hub_loop.specs.Starting.{StartsClient, StartsPort}
 use Rattle.hub_loop.specs.declared.held.Held.{Held}
 use Rattle.hub_loop.specs.declared.held.Held.TheVariants as held
@@ -299,14 +299,6 @@ answer_loses old new agent body posted_body ports (Err (error.TooManyPorts b bac
 answer_loses old new agent body posted_body ports (Err (error.Strayed missing b back)) sent e = let h = split_times e (ends_of ports) (ends_of back.items) missing.items sent.3 in omega (arith, h)
 answer_loses old new agent body posted_body ports (Err (error.Taken b back)) sent e = let h = ap (times e) sent.1.1 in omega (arith, h)
 
--- it is a queue of this number
-abbrev is_seat_end : Held → ℕ → Type 0
-is_seat_end (held.Client t) n = t.end ≡ n
-is_seat_end (held.Worker t) n = t.end ≡ n
-is_seat_end (held.Port p) n = ⊥
-is_seat_end (held.Member m) n = ⊥
-is_seat_end (held.Line l) n = ⊥
-
 -- where a line stands is no part of the ends that are held
 stand_same : (e : ℕ) (h : Held) (stand : StandSeat) → is_held e (Some (at_stand h stand)) ≡ is_held e (Some h)
 stand_same e (held.Port p) stand = refl
@@ -343,21 +335,18 @@ other_accounts (Idle busy) before now left brings differs none = let (kept, fewe
 other_accounts Ending before now left brings differs none = let (kept, fewer) = brings none in (kept, (accounts_same before (record now { kept = before.kept }) left refl fewer none).1)
 
 -- a queue that was fetched
-fetched_end : (q : HandedQueue) (h : Held) → IsHeldAs q h → is_seat_end h (taker_of q).end
-fetched_end (handed.Client t) h (u, is, adopted) = subst (λ (x : Held). is_seat_end x t.end) (sym is) (ap (λ (s : TakerSeat). s.end) adopted.0.new_is)
-fetched_end (handed.Worker t) h (u, is, (moved, adopted, now)) = subst (λ (x : Held). is_seat_end x t.end) (sym is) (ap (λ (s : TakerSeat). s.end) now ∙ ap (λ (s : TakerSeat). s.end) adopted.0.new_is)
+fetched_end : (q h : HandedQueue) → IsHandedAdopted q (Ok h) → (taker_of h).end ≡ (taker_of q).end
+fetched_end (handed.Client t) h (u, is, adopted) = ap (λ x. (taker_of x).end) is ∙ ap (λ (s : TakerSeat). s.end) adopted.0.new_is
+fetched_end (handed.Worker t) h (u, is, (moved, adopted, now)) = ap (λ x. (taker_of x).end) is ∙ ap (λ (s : TakerSeat). s.end) now ∙ ap (λ (s : TakerSeat). s.end) adopted.0.new_is
 
-fetched_count : (e : ℕ) (h : Held) (n : ℕ) → is_seat_end h n → ◌≡◌ {A = ℕ} (cond (is_held e (Some h)) 1 0) (cond (n == e) 1 0)
-fetched_count e (held.Client t) n is = ap (λ m. cond {A = ℕ} (m == e) 1 0) is
-fetched_count e (held.Worker t) n is = ap (λ m. cond {A = ℕ} (m == e) 1 0) is
-fetched_count e (held.Port p) n is = absurd is
-fetched_count e (held.Member m) n is = absurd is
-fetched_count e (held.Line l) n is = absurd is
+fetched_count : (e n : ℕ) (h : HandedQueue) → (taker_of h).end ≡ n → ◌≡◌ {A = ℕ} (cond (is_held e (Some (held_queue h))) 1 0) (cond (n == e) 1 0)
+fetched_count e n (handed.Client t) is = ap (λ m. cond {A = ℕ} (m == e) 1 0) is
+fetched_count e n (handed.Worker t) is = ap (λ m. cond {A = ℕ} (m == e) 1 0) is
 
 queue_held : (e : ℕ) (old new : HoldingState) (end : EndId) → IsFetched true old new end → held_in new.ends.held e ≡ held_in old.ends.held e + times e (end ∷ [])
 queue_held e old new end (q, is, (h, same, more, closed)) =
-    let a = count_held e old.ends.held new.ends.held h more in
-    let b = fetched_count e h (taker_of q).end (fetched_end q h same) in
+    let a = count_held e old.ends.held new.ends.held (held_queue h) more in
+    let b = fetched_count e (taker_of q).end h (fetched_end q h same) in
     let c : ◌≡◌ {A = ℕ} (cond ((taker_of q).end == e) 1 0) (cond (end.0 == e) 1 0) = ap (λ m. cond {A = ℕ} (m == e) 1 0) is in
     let d = times_one e end in
     omega (arith, a, b, c, d)

@@ -12,7 +12,7 @@ ghost use Rattle.hub_agent.specs.Owning.{Accounts, HoldsNoMore};
 ghost use Rattle.hub_agent.specs.Acting.{ActsFirst};
 ghost use Rattle.hub_trace.specs.declared.log_entry.LogEntry.{LogEntry};
 
-use crate::actor::{Acted, Actor, act_all};
+use crate::actor::{Acted, Actor, act_until_ordered_to_stop};
 use crate::agent::Agent;
 use crate::logging::log_closed_end;
 use crate::shared::{Peer, Shared, order_all_to_stop};
@@ -37,7 +37,7 @@ pub(crate) enum Awaited {
 }
 
 /// The error of a hand that was refused for want of memory.
-fn as_out_of_memory(error: HandError) -> Option<OutOfMemory> {
+fn out_of_memory_if_so(error: HandError) -> Option<OutOfMemory> {
     match error {
         HandError::OutOfMemory => Some(OutOfMemory),
         HandError::Taken => None,
@@ -57,18 +57,18 @@ fn hand_over<R: Wait>(
     match held {
         Held::Client(queue) => match queue.hand(rt, directory, to) {
             Ok(()) => Ok(()),
-            Err((error, queue)) => Err((as_out_of_memory(error), Held::Client(queue))),
+            Err((error, queue)) => Err((out_of_memory_if_so(error), Held::Client(queue))),
         },
         Held::Worker(queue) => match queue.hand(rt, directory, to) {
             Ok(()) => Ok(()),
-            Err((error, queue)) => Err((as_out_of_memory(error), Held::Worker(queue))),
+            Err((error, queue)) => Err((out_of_memory_if_so(error), Held::Worker(queue))),
         },
         held => Err((None, held)),
     }
 }
 
 /// An event of the life of a worker, which refuses what its state doesn't allow.
-fn apply_life_event(life: &mut Option<Life>, event: Event)
+fn apply_worker_life_event(life: &mut Option<Life>, event: Event)
     ensures { life.new ≡ option_map (λ p. lived p event) life.old }
 {
     if let Some(life) = life {
@@ -105,7 +105,7 @@ impl<'s, C: Checkpoint, K: Lends<Roster> + Drop> Agent<'s, C, K> {
             (actions_of self.old.notes.log.0 (actions script.now)) self.old self.new) }
     {
         let number = self.scribe.agent_id();
-        match act_all(self, rt, script, number) {
+        match act_until_ordered_to_stop(self, rt, script, number) {
             Ok(acted) => Ok(acted),
             Err(error) => {
                 order_all_to_stop(&mut self.peers);
@@ -190,7 +190,7 @@ impl<'s, C: Checkpoint, K: Lends<Roster> + Drop> Actor for Agent<'s, C, K> {
                 queue,
                 body,
                 transfer,
-            } => self.send(rt, *queue, body, transfer),
+            } => self.send_to_queue(rt, *queue, body, transfer),
             ActionKind::Cast { member, body } => self.cast(rt, *member, body),
             ActionKind::Start { end } => {
                 self.start_port_or_queue(*end);
@@ -213,7 +213,7 @@ impl<'s, C: Checkpoint, K: Lends<Roster> + Drop> Actor for Agent<'s, C, K> {
                 Ok(())
             }
             ActionKind::Event { event } => {
-                apply_life_event(&mut self.life, *event);
+                apply_worker_life_event(&mut self.life, *event);
                 Ok(())
             }
             ActionKind::Hand { to } => self.hand_over_own_queue(rt, *to),

@@ -45,9 +45,9 @@ pub struct Acted {
 /// last or to the order to end, for which it looks before each. After an error no more are done.
 ///
 /// ```rust
-/// let Acted { done, ordered } = act_all(&mut actor, rt, script, number)?;
+/// let Acted { done, ordered } = act_until_ordered_to_stop(&mut actor, rt, script, number)?;
 /// ```
-pub fn act_all<A: Actor, R: Wait>(
+pub fn act_until_ordered_to_stop<A: Actor, R: Wait>(
     actor: &mut A,
     rt: &R,
     script: &Script,

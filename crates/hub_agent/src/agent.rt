@@ -191,18 +191,22 @@ impl<'s, C: Checkpoint, K: Lends<Roster> + Drop> Agent<'s, C, K> {
             × WritesEntries entries self.old.notes self.new.notes) }
         ensures rest { KeepsButNotes self.old self.new }
     {
-        let adopted = self.scribe.take_adopted();
+        let adopted = self.scribe.take_ports_of_last_delivery();
         log_all_adopted(&mut self.scribe, &self.event_loop, &adopted)
     }
 
-    fn turn_counting<L: Ledger, R: Wait>(&mut self, rt: &R, blank: Blank) -> Result<Turn, LoopError>
+    fn turn_counting_pops<L: Ledger, R: Wait>(
+        &mut self,
+        rt: &R,
+        blank: Blank,
+    ) -> Result<Turn, LoopError>
         requires { (blank.name ≡ L.name) × (blank.parts ≡ L.parts) × (L.parts ≡ 2) }
         ensures left { IfOk result (λ turn. TurnLeaves turn self.old.notes self.new.notes) }
         ensures brings { IfOk result (λ turn. TurnBrings turn self.old self.new) }
         ensures rest { KeepsButTurns self.old self.new }
     {
         let mut steps = Steps::<L>::new_at_zero(blank);
-        let scribe = self.scribe.take_leaving_empty();
+        let scribe = self.scribe.replace_with_empty();
         let empty = self.event_loop.replace_handler(scribe);
         let turn = self.event_loop.turn(rt, &self.shared.hub, &mut steps);
         self.scribe = self.event_loop.replace_handler(empty);
@@ -216,7 +220,7 @@ impl<'s, C: Checkpoint, K: Lends<Roster> + Drop> Agent<'s, C, K> {
         ensures own { OnOk result (Accounts self.old self.new) }
         ensures rest { KeepsButTurns self.old self.new }
     {
-        let turn = match self.turn_counting::<Brand, R>(rt, Blank::new(2)) {
+        let turn = match self.turn_counting_pops::<Brand, R>(rt, Blank::new(2)) {
             Ok(turn) => turn,
             Err(LoopError::OutOfMemory) => return Err(OutOfMemory),
         };
@@ -231,7 +235,11 @@ impl<'s, C: Checkpoint, K: Lends<Roster> + Drop> Agent<'s, C, K> {
 
     /// Takes the queue that was handed to it, logs that and enables the queue. Whether it was
     /// there.
-    fn fetch_handed_queue<R: Wait>(&mut self, rt: &R, end: EndId) -> Result<bool, OutOfMemory>
+    fn fetch_and_start_handed_queue<R: Wait>(
+        &mut self,
+        rt: &R,
+        end: EndId,
+    ) -> Result<bool, OutOfMemory>
         ensures written { IfOk result (λ came. (entries : List LogEntry)
             × IsComeLogged (Awaited.Queue end) came entries
             × WritesEntries entries self.old.notes self.new.notes) }
@@ -254,7 +262,11 @@ impl<'s, C: Checkpoint, K: Lends<Roster> + Drop> Agent<'s, C, K> {
     }
 
     /// Whether what it waits for has come.
-    fn has_arrived<R: Wait>(&mut self, rt: &R, awaited: Awaited) -> Result<bool, OutOfMemory>
+    fn check_or_fetch_awaited<R: Wait>(
+        &mut self,
+        rt: &R,
+        awaited: Awaited,
+    ) -> Result<bool, OutOfMemory>
         ensures written { IfOk result (λ came. (entries : List LogEntry)
             × IsComeLogged awaited came entries
             × WritesEntries entries self.old.notes self.new.notes) }
@@ -267,7 +279,7 @@ impl<'s, C: Checkpoint, K: Lends<Roster> + Drop> Agent<'s, C, K> {
                 Ok(delivered >= u64::from(count))
             }
             Awaited::Port(end) => Ok(self.holds_port(end)),
-            Awaited::Queue(end) => self.fetch_handed_queue(rt, end),
+            Awaited::Queue(end) => self.fetch_and_start_handed_queue(rt, end),
         }
     }
 
@@ -284,7 +296,7 @@ impl<'s, C: Checkpoint, K: Lends<Roster> + Drop> Agent<'s, C, K> {
         ensures rest { KeepsButTurns self.old self.new }
     {
         for _ in rt.forever() {
-            if self.has_arrived(rt, awaited)? {
+            if self.check_or_fetch_awaited(rt, awaited)? {
                 return Ok(());
             }
             match self.turn(rt)? {

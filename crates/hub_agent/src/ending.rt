@@ -50,7 +50,7 @@ fn discard_waiting_messages<R: Wait>(rt: &R, graves: Vec<Grave>) -> Result<(), O
 }
 
 /// The notices that were put, by the ports that were closed.
-fn notices_by_closed_port(
+fn posted_notice_by_closed_port(
     alloc: Global,
     closed: &[ClosedPort],
 ) -> Result<BTreeMap<EndId, Posted>, OutOfMemory> {
@@ -92,12 +92,12 @@ fn log_all_closed(
         lost e scribe.new.log.1 ≤ lost e scribe.old.log.1 + times e held.now) }
 {
     let mut left = set_of_ends(alloc, held)?;
-    let mut notices = notices_by_closed_port(alloc, &ended.noticed)?;
+    let mut notices = posted_notice_by_closed_port(alloc, &ended.noticed)?;
     for swept in &ended.swept {
         let end = swept.id();
         let notice = notices.remove(&end);
         let was_held = left.remove(&end);
-        log_closing(scribe, end, notice, was_held)?;
+        log_notice_and_closing_if_held(scribe, end, notice, was_held)?;
     }
     for posted in notices.values() {
         log_notice(scribe, *posted)?;
@@ -106,7 +106,7 @@ fn log_all_closed(
 }
 
 /// Logs the notice of an end, where it was put, and the closing, where the loop held the end.
-fn log_closing(
+fn log_notice_and_closing_if_held(
     scribe: &mut Scribe,
     end: EndId,
     notice: Option<Posted>,

@@ -78,7 +78,11 @@ pub(crate) fn log_notice(scribe: &mut Scribe, posted: Posted) -> Result<(), OutO
 }
 
 /// Logs the notice of a port that was closed, where it was put, and the closing.
-fn log_closed(scribe: &mut Scribe, end: EndId, noticed: Noticed) -> Result<(), OutOfMemory>
+fn log_notice_and_closing(
+    scribe: &mut Scribe,
+    end: EndId,
+    noticed: Noticed,
+) -> Result<(), OutOfMemory>
     ensures { OnOk result (WritesEntries (closing_entries end noticed) scribe.old scribe.new) }
 {
     match noticed {
@@ -98,7 +102,7 @@ pub(crate) fn log_closed_end(
     ensures { OnOk result (WritesEntries (closed_entries end port) scribe.old scribe.new) }
 {
     match port {
-        Some(port) => log_closed(scribe, end, port.noticed),
+        Some(port) => log_notice_and_closing(scribe, end, port.noticed),
         None => log_close(scribe, end),
     }
 }
@@ -108,7 +112,7 @@ fn log_closings(scribe: &mut Scribe, closings: &[ClosedPort]) -> Result<(), OutO
     ensures { OnOk result (WritesEntries (doomed_entries closings.now) scribe.old scribe.new) }
 {
     for closing in closings {
-        log_closed(scribe, closing.end, closing.noticed)?;
+        log_notice_and_closing(scribe, closing.end, closing.noticed)?;
     }
     Ok(())
 }
@@ -134,7 +138,7 @@ pub(crate) fn log_post_result(
 }
 
 /// Logs the posts of a cast that were accepted.
-pub(crate) fn log_cast(
+pub(crate) fn log_accepted_posts_of_cast(
     scribe: &mut Scribe,
     outcomes: &[(EndId, CastOutcome)],
     body: &Body,
@@ -144,7 +148,7 @@ pub(crate) fn log_cast(
 {
     let mut refused = Ok(());
     for (_, outcome) in outcomes {
-        log_cast_puts(scribe, outcome, body)?;
+        log_put_if_accepted(scribe, outcome, body)?;
         if matches!(outcome, CastOutcome::OutOfMemory) {
             refused = Err(OutOfMemory);
         }
@@ -153,7 +157,11 @@ pub(crate) fn log_cast(
 }
 
 /// Logs a post of a cast, where it was accepted.
-fn log_cast_puts(scribe: &mut Scribe, outcome: &CastOutcome, body: &Body) -> Result<(), OutOfMemory>
+fn log_put_if_accepted(
+    scribe: &mut Scribe,
+    outcome: &CastOutcome,
+    body: &Body,
+) -> Result<(), OutOfMemory>
     ensures { OnOk result (WritesEntries (outcome_entries body.now outcome.now)
         scribe.old scribe.new) }
 {

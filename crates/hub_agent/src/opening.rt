@@ -34,7 +34,7 @@ pub struct Seat {
     pub peers: Vec<Peer>,
 }
 
-fn life_of(kind: AgentKind) -> Option<Life> {
+fn new_life_for_kind(kind: AgentKind) -> Option<Life> {
     match kind {
         AgentKind::Window => None,
         AgentKind::Worker => Some(Life::new()),
@@ -65,7 +65,7 @@ impl<'s, C: Checkpoint, K: Lends<Roster> + Drop> Agent<'s, C, K> {
             listener,
             peers,
         } = seat;
-        let handler = scribe.take_leaving_empty();
+        let handler = scribe.replace_with_empty();
         Ok(Agent {
             alloc,
             shared,
@@ -74,7 +74,7 @@ impl<'s, C: Checkpoint, K: Lends<Roster> + Drop> Agent<'s, C, K> {
             scribe,
             order: for_agent,
             peers,
-            life: life_of(kind),
+            life: new_life_for_kind(kind),
             graves: Vec::new(alloc),
             closings: Closings::none(),
         })

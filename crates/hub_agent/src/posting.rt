@@ -25,7 +25,7 @@ ghost use Rattle.hub_agent.specs.Casting.{HasCast};
 ghost use Rattle.hub_trace.specs.declared.log_entry.LogEntry.{LogEntry};
 
 use crate::agent::{Agent, AgentLoop};
-use crate::logging::{log_cast, log_post_result};
+use crate::logging::{log_accepted_posts_of_cast, log_post_result};
 use crate::shared::Shared;
 use hub_broadcast::{CastError, Member, Roster, cast_in_lent_roster};
 use hub_clients::DirectoryError;
@@ -111,7 +111,7 @@ impl<'s, C: Checkpoint, K: Lends<Roster> + Drop> Agent<'s, C, K> {
         }
     }
 
-    fn hold_ports<R: Wait>(&mut self, rt: &R, ports: Vec<Port>) -> Result<(), OutOfMemory>
+    fn add_ports_to_loop<R: Wait>(&mut self, rt: &R, ports: Vec<Port>) -> Result<(), OutOfMemory>
         ensures same { KeepsButEnds self.old self.new }
         ensures held { OnOk result (HoldsEach ports.items self.old.ends self.new.ends) }
     {
@@ -125,7 +125,7 @@ impl<'s, C: Checkpoint, K: Lends<Roster> + Drop> Agent<'s, C, K> {
     /// Takes the ports out of the loop, in order. `None` where one isn't held; then it holds again
     /// those that it took out.
     #[inline(always)]
-    fn release_ports<R: Wait>(
+    fn take_ports_from_loop<R: Wait>(
         &mut self,
         rt: &R,
         ends: &[EndId],
@@ -141,12 +141,12 @@ impl<'s, C: Checkpoint, K: Lends<Roster> + Drop> Agent<'s, C, K> {
         if ends.is_empty() {
             return Ok(Some(Vec::new(self.alloc)));
         }
-        self.release_each_port(rt, ends)
+        self.release_all_ports_or_none(rt, ends)
     }
 
     /// The same. It is called for a list with ports alone, since it clears room for one.
     #[inline(never)]
-    fn release_each_port<R: Wait>(
+    fn release_all_ports_or_none<R: Wait>(
         &mut self,
         rt: &R,
         ends: &[EndId],
@@ -162,14 +162,14 @@ impl<'s, C: Checkpoint, K: Lends<Roster> + Drop> Agent<'s, C, K> {
         let mut ports = Vec::with_capacity(self.alloc, ends.len())?;
         for end in ends {
             let Some(held) = self.event_loop.release(*end) else {
-                self.hold_ports(rt, ports)?;
+                self.add_ports_to_loop(rt, ports)?;
                 return Ok(None);
             };
             match as_port(held) {
                 Ok(port) => ports.push_reserved(port),
                 Err(held) => {
                     let again = self.hold(rt, held);
-                    self.hold_ports(rt, ports).and(again)?;
+                    self.add_ports_to_loop(rt, ports).and(again)?;
                     return Ok(None);
                 }
             }
@@ -192,7 +192,7 @@ impl<'s, C: Checkpoint, K: Lends<Roster> + Drop> Agent<'s, C, K> {
         ensures rest { KeepsElse self.old self.new }
     {
         let copy = body.clone()?;
-        let Some(ports) = self.release_ports(rt, transfer.as_slice())? else {
+        let Some(ports) = self.take_ports_from_loop(rt, transfer.as_slice())? else {
             return Ok(());
         };
         let mut parcel = Parcel::new(self.alloc, copy, ports);
@@ -203,7 +203,7 @@ impl<'s, C: Checkpoint, K: Lends<Roster> + Drop> Agent<'s, C, K> {
         let sent = transfer.as_slice();
         let logged = log_post_result(&mut self.scribe, answer, &self.closings, sent, body);
         let Parcel { ports: back, .. } = parcel;
-        self.hold_ports(rt, back)?;
+        self.add_ports_to_loop(rt, back)?;
         logged
     }
 
@@ -217,12 +217,16 @@ impl<'s, C: Checkpoint, K: Lends<Roster> + Drop> Agent<'s, C, K> {
         if self.event_loop.has_line_to(queue) {
             return Ok(true);
         }
-        self.borrow_line_to(rt, queue)
+        self.borrow_line_from_directory(rt, queue)
     }
 
     /// Holds a line to a queue that the directory lends. False where it lends none.
     #[inline(never)]
-    fn borrow_line_to<R: Wait>(&mut self, rt: &R, queue: EndId) -> Result<bool, OutOfMemory>
+    fn borrow_line_from_directory<R: Wait>(
+        &mut self,
+        rt: &R,
+        queue: EndId,
+    ) -> Result<bool, OutOfMemory>
         ensures same { KeepsButEnds self.old self.new }
         ensures held { OnOk result (HasLine queue self.old.ends self.new.ends) }
         ensures none { IfOk result (λ has. has ≡ false → self.new.ends ≡ self.old.ends) }
@@ -238,7 +242,7 @@ impl<'s, C: Checkpoint, K: Lends<Roster> + Drop> Agent<'s, C, K> {
 
     /// Posts at a queue, unless a port to be sent isn't held. The line is had at the first send and
     /// kept.
-    pub(crate) fn send<R: Wait>(
+    pub(crate) fn send_to_queue<R: Wait>(
         &mut self,
         rt: &R,
         queue: EndId,
@@ -294,7 +298,7 @@ pub(crate) fn cast_and_log<K: Lends<Roster>, R: Wait>(
 {
     let copy = body.clone()?;
     match cast_in_lent_roster(rt, roster, yard, source, copy, &[]) {
-        Ok(outcomes) => log_cast(scribe, &outcomes, body),
+        Ok(outcomes) => log_accepted_posts_of_cast(scribe, &outcomes, body),
         Err(CastError::OutOfMemory) => Err(OutOfMemory),
         Err(CastError::InvalidState | CastError::NotTransferable) => Ok(()),
     }

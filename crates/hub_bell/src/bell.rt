@@ -6,7 +6,7 @@ ghost use Rattle.std.specs.Arc.{arc_value};
 use crate::OutOfMemory;
 use crate::board::{
     ASLEEP, Board, BoardSeat, BoardWords, FIRST_BITS, Fresh, LoadWord, NAMES, SetBits, StoreWord,
-    TakeWord, WORDS, end_mask_of, group_mask_of, has_bit, word_index_of_end,
+    TakeWord, WORDS, end_mask_of, group_mask_of_end, has_bit_of_mask, word_index_of_end,
 };
 use crossbeam_utils::rule::{Outcome, Protocol};
 use crossbeam_utils::sync::parker::{Pass, RuledParker, RuledUnparker};
@@ -66,7 +66,7 @@ impl Bell {
             }) }
     {
         let words = &self.board.words.shared;
-        if has_bit(words.load::<LoadWord>(&mut self.seat, word), mask) {
+        if has_bit_of_mask(words.load::<LoadWord>(&mut self.seat, word), mask) {
             return false;
         }
         words.fetch_or::<SetBits>(&mut self.seat, word, mask);
@@ -97,7 +97,7 @@ impl Bell {
         if !self.set_bit_if_clear(word_index_of_end(end), end_mask_of(end)) {
             return;
         }
-        if !self.set_bit_if_clear(NAMES, group_mask_of(end)) {
+        if !self.set_bit_if_clear(NAMES, group_mask_of_end(end)) {
             return;
         }
         if self.is_listener_asleep() {
@@ -182,7 +182,7 @@ const LOOKS: usize = 32;
 /// ```rust
 /// let (mut listener, mut bell) = Listener::open(alloc)?;
 /// bell.ring(EndId(7));
-/// assert_eq!(rt; listener.take_names(), 1);
+/// assert_eq!(rt; listener.take_rung_groups(), 1);
 /// assert_eq!(rt; listener.take_bits(0), 1 << 7);
 /// ```
 #[derive(Drop)]
@@ -250,7 +250,7 @@ impl Listener {
 
     /// Takes out the names of the groups in which bits were set: bit `n` is set where one was set
     /// in the words from `16 * n` to `16 * n + 15` since the names were last taken out.
-    pub fn take_names(&mut self) -> u64
+    pub fn take_rung_groups(&mut self) -> u64
         ensures { (self.new.board ≡ self.old.board)
             × IsSwappedOut self.old.at self.new.at names_word result }
     {

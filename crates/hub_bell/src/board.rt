@@ -39,7 +39,7 @@ pub(crate) fn mask_of(bit: u32) -> u64
 }
 
 /// Whether the value has the bit of the mask.
-pub(crate) fn has_bit(value: u64, mask: u64) -> bool
+pub(crate) fn has_bit_of_mask(value: u64, mask: u64) -> bool
     ensures { result ≡ is_set value mask }
 {
     value & mask != 0
@@ -61,7 +61,7 @@ pub(crate) fn end_mask_of(end: EndId) -> u64
 }
 
 /// The bit that names the group of that word.
-pub(crate) fn group_mask_of(end: EndId) -> u64
+pub(crate) fn group_mask_of_end(end: EndId) -> u64
     ensures { result ≡ name_mask end }
 {
     mask_of((end.0 as usize / (WIDTH * GROUP) % WIDTH) as u32)

@@ -72,7 +72,7 @@ pub(crate) fn cast_to_destinations<R: Wait>(
         if subscription.is_destination(source) {
             let draft = drafts.pop().unwrap();
             let end = subscription.id();
-            let outcome = subscription.post_draft(rt, yard, draft);
+            let outcome = subscription.post_draft_to_member(rt, yard, draft);
             outcomes.push_reserved((end, outcome));
         }
     }

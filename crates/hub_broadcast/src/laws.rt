@@ -7,6 +7,6 @@ ghost use Rattle.hub_broadcast.specs.Ranks.{KeepsOrder};
 /// Each call leaves the ends of the roster rising, so the order in which the members joined is that
 /// of their numbers, and a cast goes to no end twice. The function does nothing; the law is its
 /// contract.
-pub fn roster_laws()
+pub fn prove_roster_stays_sorted()
     ensures { KeepsOrder }
 {}

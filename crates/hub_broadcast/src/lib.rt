@@ -19,7 +19,7 @@ pub use casting::CastOutcome;
 pub use error::{CastError, JoinError};
 pub use hub_envelope::OutOfMemory;
 pub use hub_origin::{Origin, OriginError, origin_of};
-pub use laws::roster_laws;
+pub use laws::prove_roster_stays_sorted;
 pub use lent::{cast_in_lent_roster, leave_lent_roster};
 pub use member::Member;
 pub use roster::Roster;

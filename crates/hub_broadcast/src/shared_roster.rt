@@ -43,7 +43,7 @@ impl SharedRoster {
     }
 
     /// The roster behind its lock, for code that is generic over who lends it.
-    pub fn as_locked(&self) -> &Locked<Roster> {
+    pub fn as_lock(&self) -> &Locked<Roster> {
         &self.roster
     }
 

@@ -56,7 +56,7 @@ impl Subscription {
     }
 
     /// Posts the draft at the member.
-    pub(crate) fn post_draft<R: Wait>(
+    pub(crate) fn post_draft_to_member<R: Wait>(
         &mut self,
         rt: &R,
         yard: &Depot<Onward>,

@@ -8,7 +8,7 @@ ghost use Rattle.hub_c.specs.Line.{BadLine, LostLine, NoMemoryLine, NoRoomLine, 
 ghost use Rattle.hub_c.specs.Line.{says_something};
 ghost use Rattle.hub_c.specs.Calls.{CallsSayTheText};
 
-use crate::line::{run_line_and_answer, say_again};
+use crate::line::{run_line_and_copy_answer, say_again};
 use crate::slot::{Parts, SessionSlot};
 use crate::status::{DONE, NO_MEMORY, WRONG_STATE};
 use hub_steps::Session;
@@ -46,7 +46,7 @@ impl HubHandle {
         ensures { result.slot.held ≡ Some session.value }
     {
         HubHandle {
-            slot: SessionSlot::of(Parts::of(session)),
+            slot: SessionSlot::of(Parts::from_box(session)),
             is_open: true,
         }
     }
@@ -123,7 +123,7 @@ pub extern "C" fn varukoni_line(
         return WRONG_STATE;
     }
     let mut session = mem::replace(hub, HubHandle::new_closed(alloc)).into_session();
-    let status = run_line_and_answer(alloc, &mut session, line, room, length);
+    let status = run_line_and_copy_answer(alloc, &mut session, line, room, length);
     *hub = HubHandle::new_open(session);
     status
 }
@@ -172,6 +172,6 @@ fn assert_send<T: Send>(value: T) -> T
 /// What `varukoni_line` puts into the rooms of a hub, joined, is the one text of the step lines
 /// that it has run, which `varukoni_steps` and the program write of an input that has them. The
 /// function does nothing; the law is its contract.
-pub fn call_laws()
+pub fn prove_calls_say_one_text()
     ensures { CallsSayTheText }
 {}

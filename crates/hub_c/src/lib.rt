@@ -10,4 +10,4 @@ mod slot;
 mod status;
 mod texts;
 
-pub use hub::call_laws;
+pub use hub::prove_calls_say_one_text;

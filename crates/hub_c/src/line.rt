@@ -13,7 +13,7 @@ use std::alloc::Global;
 
 /// Gives a text line to a session, and puts what it is answered with into the room: an outcome
 /// line, or the name of the first test that the text line fails.
-pub fn run_line_and_answer(
+pub fn run_line_and_copy_answer(
     alloc: Global,
     session: &mut Session,
     line: &[u8],

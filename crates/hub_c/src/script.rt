@@ -23,13 +23,13 @@ pub extern "C" fn varukoni_script(
     ensures { AnswersScript input.now room.old room.new length.new result }
 {
     let mut writer = CountedWriter::new(Vec::new(alloc));
-    let answer = write_first_bad_line(alloc, input, &mut writer);
+    let answer = check_script_and_write_verdict(alloc, input, &mut writer);
     let text = writer.into_inner();
     copy_output_and_return_status(answer, text.as_slice(), room, length)
 }
 
 /// Reads a script, and writes its first bad line.
-fn write_first_bad_line<W: Write>(
+fn check_script_and_write_verdict<W: Write>(
     alloc: Global,
     input: &[u8],
     writer: &mut CountedWriter<W>,
@@ -39,6 +39,6 @@ fn write_first_bad_line<W: Write>(
 {
     match Script::read(alloc, input) {
         Ok(_script) => Ok(ExitStatus::Success),
-        Err((line, error)) => write_input_error(alloc, writer, line, error.kind()),
+        Err((line, error)) => write_input_error(alloc, writer, line, error.printed_kind()),
     }
 }

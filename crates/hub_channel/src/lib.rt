@@ -19,4 +19,4 @@ mod port;
 
 pub use channel::open_channel;
 pub use hub_line::{LineGrave, LineTaken, NotPosted, OutOfMemory};
-pub use port::{Armed, ChannelPort, NO_TOKEN, PortGrave, PortTaken, take_token};
+pub use port::{Armed, ChannelPort, NO_TOKEN, PortGrave, PortTaken, take_wake_token};

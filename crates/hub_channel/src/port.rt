@@ -61,7 +61,7 @@ impl<M: Drop> ChannelPort<M> {
     ghost use Rattle.hub_channel.specs.declared.port.PortTaken.TheVariants.{Disabled};
 
     /// The number by which the host has named the channel: its two ports have the same.
-    pub fn name(&self) -> u64
+    pub fn channel_name(&self) -> u64
         ensures { result ≡ self.now.name }
     {
         self.name
@@ -87,7 +87,7 @@ impl<M: Drop> ChannelPort<M> {
             × (self.new.is_started ≡ self.old.is_started) }
     {
         self.to.post(message)?;
-        Ok(take_token(&self.there))
+        Ok(take_wake_token(&self.there))
     }
 
     /// Takes the next message, where the port is started. `Ended` comes only where the peer is
@@ -110,7 +110,7 @@ impl<M: Drop> ChannelPort<M> {
             LineTaken::Item(message) => PortTaken::Message(message),
             LineTaken::Empty => PortTaken::Empty,
             LineTaken::Ended => {
-                self.to.is_closed_by_taker();
+                self.to.end_if_closed_by_taker();
                 PortTaken::Ended
             }
         }
@@ -126,7 +126,7 @@ impl<M: Drop> ChannelPort<M> {
             × HasLooked self.old.from self.new.from }
     {
         let old = self.here.swap(token, Ordering::SeqCst);
-        let waits = self.from.has_some();
+        let waits = self.from.has_item_or_end();
         Armed { token: old, waits }
     }
 
@@ -162,15 +162,15 @@ impl<M: Drop> ChannelPort<M> {
         drop(to);
         PortGrave {
             grave,
-            token: take_token(&here),
-            wake: take_token(&there),
+            token: take_wake_token(&here),
+            wake: take_wake_token(&there),
         }
     }
 }
 
 /// Takes the token out of a word. A word with none is only loaded.
 #[inline]
-pub fn take_token(word: &AtomicU64) -> u64 {
+pub fn take_wake_token(word: &AtomicU64) -> u64 {
     if word.load(Ordering::SeqCst) == NO_TOKEN {
         return NO_TOKEN;
     }

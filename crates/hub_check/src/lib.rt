@@ -5,4 +5,4 @@
 
 mod check;
 
-pub use check::{run_check, verdict_line};
+pub use check::{check_and_format_verdict, run_check};

@@ -31,6 +31,12 @@ abbrev pub IsAdoptedAndStarted : TakerSeat → Result TakerSeat (AdoptError × T
 IsAdoptedAndStarted old (Ok new) = (moved : TakerSeat) × IsAdopted old (Ok moved) × (new ≡ started moved)
 IsAdoptedAndStarted old (Err refused) = IsAdopted old (Err refused)
 
+-- Ok: the queue's end has moved on, and a worker's was enabled then. Err: it comes back as it was.
+abbrev pub IsHandedAdopted : HandedQueue → Result HandedQueue (AdoptError × HandedQueue) → Type 0
+IsHandedAdopted (Client t) (Ok q) = (u : TakerSeat) × (q ≡ Client u) × IsAdopted t (Ok u)
+IsHandedAdopted (Worker t) (Ok q) = (u : TakerSeat) × (q ≡ Worker u) × IsAdoptedAndStarted t (Ok u)
+IsHandedAdopted q (Err refused) = (refused.1 ≡ q) × IsAdopted (taker_of q) (Err (refused.0, taker_of q))
+
 -- the queues that wait, each under its name
 abbrev pub Waiting : Type 0
 Waiting = map.FinMap key_cmp Handed

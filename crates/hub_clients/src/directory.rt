@@ -8,7 +8,7 @@ ghost use Rattle.hub_clients.specs.Handing.{taker_of};
 
 use crate::error::{DirectoryError, HandError, QueueError};
 use crate::handed::{
-    Handed, HandedQueue, close_handed_queues, fetch_from_lent_map, keep_in_lent_map,
+    Handed, HandedQueue, close_handed_queues, keep_in_lent_map, take_handed_queue_from_map,
 };
 use crate::listing::{Listed, QueueList};
 use crate::queue::{ClientQueue, Queue, WorkerQueue};
@@ -79,7 +79,7 @@ impl Directory {
     }
 
     /// A queue of the next number, which is listed under the lock.
-    fn open_listed_queue<R: Wait>(
+    fn make_and_list_queue<R: Wait>(
         &self,
         rt: &R,
         ends: &mut Ends,
@@ -110,7 +110,7 @@ impl Directory {
         ensures err { OnErr result (ends.new ≡ ends.old) }
         ensures many { IsErrOf result QueueError.TooManyEnds ↔ (MAX_ENDS ≤ ends.old.drawn) }
     {
-        let taker = self.open_listed_queue(rt, ends, bell)?;
+        let taker = self.make_and_list_queue(rt, ends, bell)?;
         Ok(Queue::from_taker(taker))
     }
 
@@ -127,7 +127,7 @@ impl Directory {
         ensures err { OnErr result (ends.new ≡ ends.old) }
         ensures many { IsErrOf result QueueError.TooManyEnds ↔ (MAX_ENDS ≤ ends.old.drawn) }
     {
-        let mut taker = self.open_listed_queue(rt, ends, bell)?;
+        let mut taker = self.make_and_list_queue(rt, ends, bell)?;
         taker.start();
         Ok(Queue::from_taker(taker))
     }
@@ -161,7 +161,7 @@ impl Directory {
     ) -> Result<(), (HandError, HandedQueue)>
         ensures { IfErr result (λ refused. refused.1 ≡ queue) }
     {
-        let mut lender = self.handed.as_locked();
+        let mut lender = self.handed.as_lock();
         keep_in_lent_map(rt, &mut lender, queue, to)
     }
 
@@ -170,8 +170,8 @@ impl Directory {
     pub fn fetch_handed_queue<R: Wait>(&self, rt: &R, end: EndId, to: AgentId) -> Option<Handed>
         ensures { IfSome result (λ h. ((taker_of h.queue).end ≡ end.0) × (h.to ≡ to)) }
     {
-        let mut lender = self.handed.as_locked();
-        fetch_from_lent_map(rt, &mut lender, end, to)
+        let mut lender = self.handed.as_lock();
+        take_handed_queue_from_map(rt, &mut lender, end, to)
     }
 
     /// Closes every queue that still waits for an agent. What is left of them is discarded: ports

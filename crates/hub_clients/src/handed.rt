@@ -7,10 +7,10 @@ ghost use Rattle.hub_clients.specs.Handing.{handed_name, handed_to, taker_of, Ar
 
 use crate::error::HandError;
 use crate::queue::{ClientQueue, WorkerQueue};
-use hub_depot::{DepotError, Kept, Key, Named, put_into_lent_map, take_from_lent_map};
+use hub_depot::{Depot, DepotError, Kept, Key, Named, put_into_lent_map, take_from_lent_map};
 use hub_envelope::{AgentId, EndId, LineId};
 use hub_locked::{Hears, Lends};
-use hub_queue::Grave;
+use hub_queue::{AdoptError, Bell, Grave, Onward};
 use std::sync::Wait;
 
 /// A queue that goes from one agent to another.
@@ -25,7 +25,7 @@ pub enum HandedQueue {
 impl HandedQueue {
     ghost use Rattle.std.specs.Prelude.{◌≡◌};
     ghost use Rattle.hub_queue.specs.Ending.{IsClosed};
-    ghost use Rattle.hub_clients.specs.Handing.{taker_of};
+    ghost use Rattle.hub_clients.specs.Handing.{taker_of, IsHandedAdopted};
 
     /// The number of the queue.
     pub fn id(&self) -> EndId
@@ -34,6 +34,28 @@ impl HandedQueue {
         match self {
             HandedQueue::Client(queue) => queue.id(),
             HandedQueue::Worker(queue) => queue.id(),
+        }
+    }
+
+    /// Adopts the queue for the loop that this bell wakes, as the `adopt` of either queue does.
+    /// After an error it comes back as it was.
+    pub fn adopt<R: Wait>(
+        self,
+        rt: &R,
+        yard: &Depot<Onward>,
+        bell: Bell,
+    ) -> Result<HandedQueue, (AdoptError, HandedQueue)>
+        ensures { IsHandedAdopted self result }
+    {
+        match self {
+            HandedQueue::Client(queue) => match queue.adopt(rt, yard, bell) {
+                Ok(queue) => Ok(HandedQueue::Client(queue)),
+                Err((error, queue)) => Err((error, HandedQueue::Client(queue))),
+            },
+            HandedQueue::Worker(queue) => match queue.adopt(rt, yard, bell) {
+                Ok(queue) => Ok(HandedQueue::Worker(queue)),
+                Err((error, queue)) => Err((error, HandedQueue::Worker(queue))),
+            },
         }
     }
 
@@ -116,7 +138,7 @@ pub fn keep_in_lent_map<L: Lends<Kept<Handed>>, R: Wait>(
 }
 
 /// Takes out the queue of that number that was handed to that agent.
-pub fn fetch_from_lent_map<L: Lends<Kept<Handed>>, R: Wait>(
+pub fn take_handed_queue_from_map<L: Lends<Kept<Handed>>, R: Wait>(
     rt: &R,
     lender: &mut L,
     end: EndId,

@@ -14,6 +14,8 @@ mod queue;
 
 pub use directory::{Directory, open_queue_in_lent_list};
 pub use error::{DirectoryError, HandError, QueueError};
-pub use handed::{Handed, HandedQueue, close_handed_queues, fetch_from_lent_map, keep_in_lent_map};
+pub use handed::{
+    Handed, HandedQueue, close_handed_queues, keep_in_lent_map, take_handed_queue_from_map,
+};
 pub use listing::{Listed, QueueList};
 pub use queue::{Client, ClientQueue, Queue, QueueKind, Worker, WorkerQueue};

@@ -145,8 +145,8 @@ all_rights lines g h c none =
     let all = rights_of g.homes g.phases (h.homes ∙ ap (λ b. map (is_home b) g.phases) c) none in
     (all.0, all.1 ∙ h.phases, all.2)
 
-pub gate_machine_laws : {R : Type 0} → GateMachineLaws R
-gate_machine_laws = record {
+pub prove_gate_machine_laws : {R : Type 0} → GateMachineLaws R
+prove_gate_machine_laws = record {
   opened = at_first;
   step = λ owns lines g g' event answer step h. after lines g h g' step;
   reached = λ owns g. reached_one g;

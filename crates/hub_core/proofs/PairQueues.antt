@@ -11,7 +11,7 @@ use Rattle.hub_core.proofs.Totals.{filter_both, nothing_there, queues_from, join
 use Rattle.hub_core.proofs.MailboxShown.{view, ShownAt, IsShown, HasRight, Leads, one_step, event_grows, Standing, standing, queue_shown, clear_shown, Runs}
 use Rattle.hub_core.specs.declared.step.Outcome.TheVariants as outcome
 use Rattle.hub_core.specs.GateMachine as machine
-use Rattle.hub_core.proofs.Gating.{weight_le, gate_machine_laws}
+use Rattle.hub_core.proofs.Gating.{weight_le, prove_gate_machine_laws}
 
 -- ==== The pairs that are events of a queue: a Push or a Notice that was accepted, and a pop, which finds an envelope or none.
 
@@ -317,7 +317,7 @@ module _ (f : Facts) (e : ℕ) (m : Mailbox OneRight) (is : ShownAt f e m) where
       let ok : IsGateOf lines g = is.is_mailbox.each_gate k g gate.1 in
       let kept : g.collected ≡ false = is.given k g gate.1 ∙ clears.looks.unclear in
       let none : busy g ≡ 0 = nobody_there k g gate.1 clears.nobody in
-      let all = gate_machine_laws.whole lines g ok kept none in
+      let all = prove_gate_machine_laws.whole lines g ok kept none in
       let many : length (rights_of m) ≡ lines = length-map m.stands (λ (_ : ℕ). tt) ∙ is.is_mailbox.stands in
       let rights : all.0 ≡ rights_of m = same_rights all.0 (rights_of m) (all.1 ∙ sym many) in
       let step : MailboxStep HasRight e lines m (at_gate k machine.look (machine.gives_rights (rights_of m))) (with_gate m k (with_none g)) =

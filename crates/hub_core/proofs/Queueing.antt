@@ -71,8 +71,8 @@ none_held q is = none_cases q q.held refl is
     none_cases q [] same p = same
     none_cases q (u ∷ rest) same p = absurd (search (rules, p))
 
-pub queue_laws : QueueLaws
-queue_laws = record {
+pub prove_queue_laws : QueueLaws
+prove_queue_laws = record {
   opened = at_first_queue;
   push = after_push;
   pop = after_pop;

@@ -74,8 +74,8 @@ maker_of (Some (Member a)) = Some a
 maker_of _ = None
 
 -- the line that a port posts on: line 0 of its peer
-abbrev pub line_of_port : History → ℕ → Option Sender
-line_of_port h x = option_map (λ q. record { end = record { 0 = q }; line = record { 0 = 0 } }) (peer h x)
+abbrev pub line_port_posts_on : History → ℕ → Option Sender
+line_port_posts_on h x = option_map (λ q. record { end = record { 0 = q }; line = record { 0 = 0 } }) (peer h x)
 
 -- how many lines an end has
 abbrev pub lines_of : Option Kind → ℕ

@@ -32,7 +32,7 @@ impl Agent {
     };
 
     /// How many queues of a kind the agent has.
-    pub(crate) fn queue_count(self, kind: Kind) -> u32
+    pub(crate) fn queue_count_of_kind(self, kind: Kind) -> u32
         ensures { result ≡ count_of kind (Some self) }
     {
         match kind {
@@ -43,7 +43,7 @@ impl Agent {
     }
 
     /// The agent with an end of this kind more.
-    pub(crate) fn with_one_queue_more(mut self, kind: Kind) -> Result<Agent, OutOfMemory>
+    pub(crate) fn with_end_counted_if_queue(mut self, kind: Kind) -> Result<Agent, OutOfMemory>
         ensures { IfOk result (λ x. x ≡ one_more kind self) }
     {
         match kind {
@@ -67,7 +67,7 @@ impl Agent {
     }
 
     /// The agent after a poster of it came to this phase: one more is away, or one less.
-    pub(crate) fn after_poster_phase_change(mut self, phase: Phase) -> Agent
+    pub(crate) fn with_updated_away_poster_count(mut self, phase: Phase) -> Agent
         ensures { result ≡ counted phase self }
     {
         match phase {

@@ -39,7 +39,7 @@ impl Core {
             return Ok(Outcome::TooManyAgents);
         }
         self.agents.reserve(1)?;
-        self.roster.members.add_agent(origin)?;
+        self.roster.members.add_agent_origin(origin)?;
         self.agents.push(Agent::FIRST).unwrap();
         Ok(Outcome::Agent(AgentId(number as u8)))
     }
@@ -88,7 +88,7 @@ impl Core {
             × (self.new ≡ queue_core agent kind self.old o))
             (λ _. self.new ≡ self.old) }
     {
-        if !self.is_running(agent) || self.queue_count(kind, agent) != 0 {
+        if !self.is_running(agent) || self.queue_count_of_kind(kind, agent) != 0 {
             return Ok(Outcome::NotNow);
         }
         let number = self.ends.len();
@@ -98,7 +98,7 @@ impl Core {
         if memory_refused {
             return Ok(Outcome::NoMemory);
         }
-        let counted = self.agent_with_one_queue_more(kind, agent)?;
+        let counted = self.agent_with_end_counted_if_queue(kind, agent)?;
         let end = End::new(self.alloc, agent, kind)?;
         // What the agent has is counted once the end has its place.
         self.ends.push(end)?;
@@ -126,7 +126,7 @@ impl Core {
         };
         let sender = Sender { end, line };
         let held_by = Some(agent);
-        let found = self.line_at(sender);
+        let found = self.line_of_sender_or_default(sender);
         self.set_line(sender, Line { held_by, ..found });
         Outcome::Line(line)
     }
@@ -136,7 +136,7 @@ impl Core {
         ensures { (result ≡ back_answer (seen self.old) sender)
             × (self.new ≡ core_after self.old result (action.Back sender)) }
     {
-        let found = self.line_at(sender);
+        let found = self.line_of_sender_or_default(sender);
         if found.held_by.is_none() || found.phase != Phase::Out {
             return Outcome::NotNow;
         }
@@ -146,17 +146,17 @@ impl Core {
     }
 
     /// How many queues of a kind an agent has.
-    pub(crate) fn queue_count(&self, kind: Kind, agent: AgentId) -> u32
+    pub(crate) fn queue_count_of_kind(&self, kind: Kind, agent: AgentId) -> u32
         ensures { result ≡ count_of kind (slice_get self.now.agents agent.0) }
     {
         match self.agent_at(agent) {
-            Some(found) => found.queue_count(kind),
+            Some(found) => found.queue_count_of_kind(kind),
             None => 0,
         }
     }
 
     /// The agent with an end of this kind more.
-    pub(crate) fn agent_with_one_queue_more(
+    pub(crate) fn agent_with_end_counted_if_queue(
         &self,
         kind: Kind,
         agent: AgentId,
@@ -165,7 +165,7 @@ impl Core {
             ≡ option_map (one_more kind) (slice_get self.now.agents agent.0)) }
     {
         match self.agent_at(agent) {
-            Some(found) => Ok(Some(found.with_one_queue_more(kind)?)),
+            Some(found) => Ok(Some(found.with_end_counted_if_queue(kind)?)),
             None => Ok(None),
         }
     }
@@ -250,7 +250,7 @@ impl Core {
         for (number, end) in self.ends.iter().enumerate() {
             add_end_if(&mut ends, end.place.is_at(agent), number)?;
         }
-        Ok(Items::of_list(ends))
+        Ok(Items::from_vec(ends))
     }
 
     /// The agent, running or ending, whose poster a line has.
@@ -269,7 +269,7 @@ impl Core {
     }
 
     /// A poster of the agent came to this phase: it is away now, or it left.
-    pub(crate) fn record_poster_phase(&mut self, owner: Option<AgentId>, phase: Phase)
+    pub(crate) fn update_away_poster_count(&mut self, owner: Option<AgentId>, phase: Phase)
         ensures { self.new ≡ record self.old {
           agents = change_owner (counted phase) owner self.old.agents;
         } }
@@ -278,7 +278,7 @@ impl Core {
             return;
         };
         if let Some(found) = self.agent_at(agent).copied() {
-            self.set_agent(agent, Some(found.after_poster_phase_change(phase)));
+            self.set_agent(agent, Some(found.with_updated_away_poster_count(phase)));
         }
     }
 }

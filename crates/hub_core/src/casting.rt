@@ -38,7 +38,7 @@ impl Core {
         if !self.is_running(agent) || self.roster.cast.is_some() {
             return Ok(Outcome::NotNow);
         }
-        if !self.roster.members.agent_has_origin(agent) {
+        if !self.roster.members.agent_has_any_origin(agent) {
             return Ok(Outcome::NoOrigin);
         }
         let number = self.ends.len();
@@ -50,7 +50,7 @@ impl Core {
         }
         self.ends.reserve(1)?;
         // Only a step that makes an end takes memory for its group.
-        let Some(group) = self.roster.members.group_for_agent_and_name(agent, name)? else {
+        let Some(group) = self.roster.members.group_from_origin_and_name(agent, name)? else {
             return Ok(Outcome::NoOrigin);
         };
         let end = End::new(self.alloc, agent, Kind::Member(agent))?;
@@ -60,7 +60,7 @@ impl Core {
     }
 
     /// A member casts a body to the others of its origin and name.
-    pub(crate) fn cast(
+    pub(crate) fn begin_cast(
         &mut self,
         end: EndId,
         ports: Items<EndId>,
@@ -79,7 +79,7 @@ impl Core {
         let ends = self.roster.members.others(self.alloc, end.0)?;
         let left = to_deque(self.alloc, &ends)?;
         self.roster.begin_cast(end, body, left);
-        Ok(Outcome::Destinations(Items::of_list(ends)))
+        Ok(Outcome::Destinations(Items::from_vec(ends)))
     }
 
     /// What a cast is answered that doesn't begin.

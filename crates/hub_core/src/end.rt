@@ -45,7 +45,7 @@ impl Place {
     }
 
     /// Whether an end of this place has arrived at an agent.
-    pub(crate) fn has_arrived_at(self, agent: AgentId) -> bool
+    pub(crate) fn has_arrived_at_agent(self, agent: AgentId) -> bool
         ensures { result ≡ is_arrived agent (Some self) }
     {
         matches!(self, Place::Arrived(by) if by == agent)
@@ -98,7 +98,7 @@ impl End {
 
     /// The queue that a look looks at: the first that isn't clear among the retired ones from the
     /// taker's on, and the newest where the end is closed.
-    pub(crate) fn next_unclear_queue(&self) -> Option<u32>
+    pub(crate) fn next_queue_to_look_at(&self) -> Option<u32>
         ensures { result ≡ kept_looked self.now }
     {
         let newest = u64::from(self.newest);
@@ -151,7 +151,7 @@ impl End {
     }
 
     /// The line, where its poster is inside a queue of the end and no notice was put.
-    pub(crate) fn line_if_poster_inside(&self, line: LineId) -> Option<Line>
+    pub(crate) fn line_ready_to_push(&self, line: LineId) -> Option<Line>
         ensures { result ≡ posting_line self.now (slice_get self.now.lines line.0) }
     {
         let found = self.lines.get(line)?;

@@ -83,7 +83,7 @@ impl Core {
     }
 
     /// The queue that is looked at becomes clear where nobody is inside or being turned back there.
-    pub(crate) fn mark_next_queue_clear(&mut self, end: EndId) -> Outcome
+    pub(crate) fn mark_next_queue_if_clear(&mut self, end: EndId) -> Outcome
         ensures { let found = slice_get self.old.ends end.0 in
             let epoch = option_and_then kept_looked found in
             let looked = found_at (λ k. is_anyone_at k (kept_lines found)) epoch in
@@ -96,7 +96,7 @@ impl Core {
         if !found.is_closed && found.taker >= found.newest {
             return Outcome::NotNow;
         }
-        let Some(epoch) = found.next_unclear_queue() else {
+        let Some(epoch) = found.next_queue_to_look_at() else {
             return Outcome::Clear(None);
         };
         if found.lines.has_poster_at_queue(epoch) {
@@ -157,7 +157,7 @@ impl Core {
         if found.is_closed {
             return Ok(Outcome::Closed);
         }
-        if !found.place.has_arrived_at(agent) || !is_running {
+        if !found.place.has_arrived_at_agent(agent) || !is_running {
             return Ok(Outcome::NotNow);
         }
         if found.newest >= MAX_MOVES {
@@ -194,10 +194,10 @@ impl Core {
             IfOk result (λ found. found
             ≡ option_map (adopting released kind) (slice_get self.now.agents agent.0)) }
     {
-        match self.agent_with_one_queue_more(kind, agent)? {
-            Some(found) if !self.is_own_poster_out(kind) => Ok(Some(found.after_poster_phase_change(
-                Phase::Inside,
-            ))),
+        match self.agent_with_end_counted_if_queue(kind, agent)? {
+            Some(found) if !self.is_own_poster_outside_queue(kind) => Ok(Some(
+                found.with_updated_away_poster_count(Phase::Inside),
+            )),
             found => Ok(found),
         }
     }
@@ -230,17 +230,17 @@ impl Core {
         let Some(found) = self.end_at(end) else {
             return false;
         };
-        found.place.is_closable() && self.is_own_poster_out(found.kind)
+        found.place.is_closable() && self.is_own_poster_outside_queue(found.kind)
     }
 
     /// Whether an end of this kind is no port whose own poster is inside or being turned back.
-    fn is_own_poster_out(&self, kind: Kind) -> bool
+    fn is_own_poster_outside_queue(&self, kind: Kind) -> bool
         ensures { result ≡ is_released (seen self.now).line (Some kind) }
     {
         let Kind::Port(peer) = kind else {
             return true;
         };
-        self.line_at(Sender {
+        self.line_of_sender_or_default(Sender {
             end: peer,
             line: LineId(0),
         })

@@ -19,7 +19,7 @@ pub enum Kind {
 
 impl Kind {
     /// The port that posts at an end of this kind, where one does.
-    pub(crate) fn peer_port(self) -> Option<EndId>
+    pub(crate) fn peer_port_id(self) -> Option<EndId>
         ensures { option_map (λ q. q.0) result ≡ peer_of (Some self) }
     {
         match self {

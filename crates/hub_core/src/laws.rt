@@ -19,7 +19,7 @@ ghost use Rattle.hub_core.specs.Laws.{TurnedPutsNothing, NoticeIsLast, InOrder, 
 
 /// What holds of every legal history: `run` answers one, and `Core::step` makes one longer.
 /// The function does nothing; the laws are its contract.
-pub fn history_laws()
+pub fn prove_history_laws()
     ensures headline { (h : History) → Legal h → Headline h }
     ensures sound { (h : History) → Legal h → Sound (facts h) }
     ensures keeps_the_line { KeepsTheLine }
@@ -34,20 +34,20 @@ pub fn history_laws()
 /// What holds of every queue, in the core and among running threads: for every line what was taken,
 /// followed by what is held, is what it put, and that is numbered from 0. The function does
 /// nothing; the laws are its contract.
-pub fn queue_laws()
+pub fn prove_queue_laws()
     ensures { QueueLaws }
 {}
 
 /// What holds of every gate machine with rights `R`: the right of a line is at home unless the line
 /// is inside or the rights were collected. The function does nothing; the laws are its contract.
-pub fn gate_machine_laws<R>()
+pub fn prove_gate_machine_laws<R>()
     ensures { GateMachineLaws R }
 {}
 
 /// What holds of every mailbox machine whose gates have rights `R`: line by line, what was taken
 /// out of its chain of queues is a prefix of what was put there. The function does nothing; the
 /// laws are its contract.
-pub fn mailbox_chain_laws<R>()
+pub fn prove_mailbox_chain_laws<R>()
     ensures { ChainLaws R }
 {}
 
@@ -56,7 +56,7 @@ pub fn mailbox_chain_laws<R>()
 /// each shows the history, goes on by the events of a pair that fits, and has the queues that the
 /// core keeps. And what such a core took is in order, queue by queue. The function does nothing;
 /// the laws are its contract.
-pub fn mailbox_laws()
+pub fn prove_mailboxes_show_history()
     ensures shown { (core : Core) (h : History) → Shows core h → MailboxesShow core h }
     ensures shows { (h : History) → Legal h → EachShows h }
     ensures goes_on { (h : History) (p : Pair) → Legal h → Fits h p → (e : ℕ) → GoesOn h p e }
@@ -66,6 +66,6 @@ pub fn mailbox_laws()
 
 /// What each pair of a legal history is to the mailbox of an end: events there, or nothing. The
 /// function does nothing; the law is its contract.
-pub fn history_pair_laws()
+pub fn prove_steps_are_mailbox_events()
     ensures { PairsAreEvents }
 {}

@@ -22,8 +22,8 @@ mod step;
 pub use hub_envelope::OutOfMemory;
 pub use kind::Kind;
 pub use laws::{
-    gate_machine_laws, history_laws, history_pair_laws, mailbox_chain_laws, mailbox_laws,
-    queue_laws,
+    prove_gate_machine_laws, prove_history_laws, prove_mailbox_chain_laws,
+    prove_mailboxes_show_history, prove_queue_laws, prove_steps_are_mailbox_events,
 };
 pub use machine::Core;
 pub use runs::run;

@@ -1,7 +1,7 @@
 //! The core, its dispatch, what several families of steps ask of agents, ends and lines, and what a
 //! core may be asked.
 //!
-//! A post is the steps Enter, Push and Leave of one line. `Core::enter_queue` (`posting.rt`) asks
+//! A post is the steps Enter, Push and Leave of one line. `Core::let_poster_enter_queue` (`posting.rt`) asks
 //! `Core::may_poster_enter`, and answers `In`, or `Moved` at a retired queue and `Closed` at a
 //! closed end, where the poster isn't inside but has to leave as well. `Core::push` makes its tests
 //! in `Core::check_push`. `Core::put_with_ports` puts the envelope in its queue (`End::put`) and
@@ -24,7 +24,7 @@ ghost use Rattle.hub_core.specs.Posting.{may_enter, may_post, listing, owner_by,
 ghost use Rattle.hub_core.specs.Facts.{facts};
 ghost use Rattle.hub_core.specs.History.{History};
 ghost use Rattle.hub_core.specs.Laws.{InOrder};
-ghost use Rattle.hub_core.specs.Made.{kind, line_of_port};
+ghost use Rattle.hub_core.specs.Made.{kind, line_port_posts_on};
 ghost use Rattle.hub_core.specs.Taking.{may_close};
 ghost use Rattle.hub_core.specs.Kept.{seen, line_of, set_line};
 ghost use Rattle.hub_core.specs.Shows.{Shows, FitsAndShows, StillShows, line_now, SameContent};
@@ -129,31 +129,31 @@ impl Core {
             Action::Member(agent, name) => self.make_member(agent, name, memory_refused),
             Action::Line(end, agent) => Ok(self.hold_free_line(end, agent)),
             Action::Back(sender) => Ok(self.release_line(sender)),
-            Action::Enter(sender) => Ok(self.enter_queue(sender)),
+            Action::Enter(sender) => Ok(self.let_poster_enter_queue(sender)),
             Action::Push(sender, ports, body) => self.push(sender, ports, body, memory_refused),
             Action::Notice(sender) => self.put_notice(sender, memory_refused),
             Action::Leave(sender) => Ok(self.leave_queue(sender)),
             Action::Hop(sender) => Ok(self.move_line_to_next_queue(sender)),
             Action::Start(end) => Ok(self.start(end)),
             Action::Take(end) => Ok(self.take(end)),
-            Action::Look(end) => Ok(self.mark_next_queue_clear(end)),
+            Action::Look(end) => Ok(self.mark_next_queue_if_clear(end)),
             Action::Adopt(end, agent) => self.adopt(end, agent, memory_refused),
             Action::Close(end) => Ok(self.close(end)),
             Action::Sweep(end) => self.sweep(end),
             Action::Hand(end, agent) => Ok(self.hand_over_queue(end, agent)),
             Action::Order(agent) => Ok(self.request_agent_stop(agent)),
             Action::See(agent) => self.stop_agent_if_requested(agent),
-            Action::Cast(end, ports, body) => self.cast(end, ports, body),
+            Action::Cast(end, ports, body) => self.begin_cast(end, ports, body),
             Action::Part(end) => Ok(self.leave_roster(end)),
         }
     }
 
     /// The line that a port posts on: line 0 of the port that it is entangled with. `None` where
     /// the number names no port.
-    pub fn line_of_port(&self, port: EndId) -> Option<Sender>
-        ensures { (h : History) → Shows self.now h → result ≡ line_of_port h port.0 }
+    pub fn line_port_posts_on(&self, port: EndId) -> Option<Sender>
+        ensures { (h : History) → Shows self.now h → result ≡ line_port_posts_on h port.0 }
     {
-        let end = self.end_at(port)?.kind.peer_port()?;
+        let end = self.end_at(port)?.kind.peer_port_id()?;
         let line = LineId(0);
         Some(Sender { end, line })
     }
@@ -211,7 +211,7 @@ impl Core {
             Kind::Port(peer) if sender.line.0 == 0 => self.running_holder(peer),
             Kind::Client | Kind::Worker => held_by.filter(|agent| self.is_running(*agent)),
             Kind::Member(_) if sender.line.0 == 0 => {
-                self.maker_of_member(self.roster.source_of_cast_to(sender.end)?)
+                self.maker_of_member(self.roster.cast_source_if_next_destination(sender.end)?)
             }
             Kind::Port(_) | Kind::Member(_) => None,
         }
@@ -227,7 +227,7 @@ impl Core {
     }
 
     /// What is kept of a line. Where there is none it is one that has put nothing.
-    pub(crate) fn line_at(&self, sender: Sender) -> Line
+    pub(crate) fn line_of_sender_or_default(&self, sender: Sender) -> Line
         ensures kept { result ≡ line_of self.now.ends sender }
         ensures seen { line_now (Some result) ≡ (seen self.now).line sender.end.0 sender.line.0 }
     {
@@ -247,7 +247,7 @@ impl Core {
     }
 
     /// Whether an end has a place where it can be closed.
-    pub(crate) fn is_place_closable(&self, end: EndId) -> bool
+    pub(crate) fn is_end_at_closable_place(&self, end: EndId) -> bool
         ensures { result ≡ is_here ((seen self.now).end end.0).place }
     {
         match self.end_at(end) {
@@ -264,7 +264,7 @@ impl Core {
             return false;
         };
         match end.kind {
-            Kind::Port(peer) => sender.line.0 == 0 && self.is_place_closable(peer),
+            Kind::Port(peer) => sender.line.0 == 0 && self.is_end_at_closable_place(peer),
             Kind::Client | Kind::Worker | Kind::Member(_) => false,
         }
     }
@@ -281,7 +281,7 @@ impl Core {
     pub fn may_post(&self, sender: Sender) -> bool
         ensures { (h : History) → Shows self.now h → result ≡ may_post (facts h) sender }
     {
-        let line = self.line_at(sender);
+        let line = self.line_of_sender_or_default(sender);
         self.posting_agent(sender).is_some() && line.phase == Phase::Out && !line.has_noticed
     }
 

@@ -28,7 +28,7 @@ struct Posting {
 }
 
 impl Core {
-    pub(crate) fn enter_queue(&mut self, sender: Sender) -> Outcome
+    pub(crate) fn let_poster_enter_queue(&mut self, sender: Sender) -> Outcome
         ensures { (result ≡ enter_answer (seen self.old) sender)
             × (self.new ≡ core_after self.old result (action.Enter sender)) }
     {
@@ -38,7 +38,7 @@ impl Core {
         let Some(end) = self.end_at(sender.end) else {
             return Outcome::NotNow;
         };
-        let found = self.line_at(sender);
+        let found = self.line_of_sender_or_default(sender);
         if found.phase != Phase::Out || found.has_noticed {
             return Outcome::NotNow;
         }
@@ -52,7 +52,7 @@ impl Core {
         let owner = self.owner_of_line(sender);
         // The line is written right after it was read, so that it is looked for once.
         self.set_line(sender, Line { phase, ..found });
-        self.record_poster_phase(owner, phase);
+        self.update_away_poster_count(owner, phase);
         outcome
     }
 
@@ -60,15 +60,15 @@ impl Core {
         ensures { (result ≡ leave_answer (seen self.old) sender)
             × (self.new ≡ core_after self.old result (action.Leave sender)) }
     {
-        let found = self.line_at(sender);
+        let found = self.line_of_sender_or_default(sender);
         if found.phase == Phase::Out {
             return Outcome::NotNow;
         }
         let phase = Phase::Out;
         let owner = self.owner_of_line(sender);
         self.set_line(sender, Line { phase, ..found });
-        self.record_poster_phase(owner, phase);
-        self.roster.advance_cast(sender.end);
+        self.update_away_poster_count(owner, phase);
+        self.roster.advance_cast_if_next(sender.end);
         Outcome::Left
     }
 
@@ -83,7 +83,7 @@ impl Core {
         let Some(end) = self.end_at(sender.end) else {
             return Outcome::NotNow;
         };
-        let found = self.line_at(sender);
+        let found = self.line_of_sender_or_default(sender);
         if found.phase != Phase::Out || found.epoch >= end.newest {
             return Outcome::NotNow;
         }
@@ -117,7 +117,7 @@ impl Core {
     {
         match self.check_push(sender, ports.as_slice(), &body, memory_refused) {
             Ok(Posting { line, agent }) => {
-                let ports = Ports::of_list(ports.into_list()).unwrap();
+                let ports = Ports::try_from_vec(ports.into_list()).unwrap();
                 let accepted = Acceptance {
                     agent,
                     epoch: line.epoch,
@@ -159,7 +159,7 @@ impl Core {
             × HasQueue self.now.ends sender p.line)
             (λ o. core_after self.now o pushing ≡ self.now) }
     {
-        let Some((kind, line)) = self.line_if_poster_inside(sender) else {
+        let Some((kind, line)) = self.line_ready_to_push(sender) else {
             return Err(Outcome::NotNow);
         };
         let Some(agent) = self.posting_agent_by_kind(sender, kind, line.held_by) else {
@@ -180,7 +180,7 @@ impl Core {
     }
 
     /// The line, where its poster is inside and no notice was put, and what its end is.
-    fn line_if_poster_inside(&self, sender: Sender) -> Option<(Kind, Line)>
+    fn line_ready_to_push(&self, sender: Sender) -> Option<(Kind, Line)>
         ensures answer { result ≡ posting_at sender (slice_get self.now.ends sender.end.0) }
         ensures there { IfSome result (λ p. (sender.end.0 < length self.now.ends)
             × HasQueue self.now.ends sender p.1
@@ -189,7 +189,7 @@ impl Core {
             × ((seen self.now).line sender.end.0 sender.line.0 ≡ line_now (Some p.1))) }
     {
         let end = self.end_at(sender.end)?;
-        let line = end.line_if_poster_inside(sender.line)?;
+        let line = end.line_ready_to_push(sender.line)?;
         Some((end.kind, line))
     }
 
@@ -217,7 +217,7 @@ impl Core {
             × (self.new ≡ core_after self.old o (action.Notice sender)))
             (λ _. self.new ≡ self.old) }
     {
-        let Some((_, line)) = self.line_if_poster_inside(sender) else {
+        let Some((_, line)) = self.line_ready_to_push(sender) else {
             return Ok(Outcome::NotNow);
         };
         if !self.may_put_notice(sender) {
@@ -306,7 +306,7 @@ impl Core {
         requires { ((seen self.now).end sender.end.0).kind ≡ Some kind }
         ensures { result ≡ listing_of (seen self.now) sender ports.now agent }
     {
-        if !self.may_all_travel(sender, kind.peer_port(), agent, ports) {
+        if !self.are_distinct_and_may_travel(sender, kind.peer_port_id(), agent, ports) {
             return Listing::Bad;
         }
         if ports.contains(&sender.end) {
@@ -317,7 +317,7 @@ impl Core {
     }
 
     /// Whether these are distinct ports that may leave an agent.
-    fn may_all_travel(
+    fn are_distinct_and_may_travel(
         &self,
         sender: Sender,
         source: Option<EndId>,
@@ -360,7 +360,7 @@ impl Core {
         let Kind::Port(peer) = kind else {
             return false;
         };
-        let line = self.line_at(Sender {
+        let line = self.line_of_sender_or_default(Sender {
             end: peer,
             line: LineId(0),
         });

@@ -127,9 +127,9 @@ impl Queues {
         ensures { IfOk result (λ n. n ≡ length (joined self.now)) }
     {
         let (front, back) = self.queues.as_slices();
-        let waiting = envelope_count_in(front)?;
+        let waiting = envelope_count_in_queues(front)?;
         waiting
-            .checked_add(envelope_count_in(back)?)
+            .checked_add(envelope_count_in_queues(back)?)
             .ok_or(OutOfMemory)
     }
 
@@ -146,12 +146,12 @@ impl Queues {
                 envelopes.push(envelope).unwrap();
             }
         }
-        Ok(Items::of_list(envelopes))
+        Ok(Items::from_vec(envelopes))
     }
 }
 
 /// How many envelopes wait in these queues.
-fn envelope_count_in(queues: &[Waiting]) -> Result<usize, OutOfMemory>
+fn envelope_count_in_queues(queues: &[Waiting]) -> Result<usize, OutOfMemory>
     ensures { IfOk result (λ n. n ≡ length (joined queues.now)) }
 {
     let mut count: usize = 0;

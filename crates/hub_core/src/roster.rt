@@ -85,7 +85,7 @@ impl Members {
     }
 
     /// One more agent, of this origin or of none.
-    pub(crate) fn add_agent(&mut self, origin: Option<Text>) -> Result<(), OutOfMemory>
+    pub(crate) fn add_agent_origin(&mut self, origin: Option<Text>) -> Result<(), OutOfMemory>
         ensures { MatchResult result (λ _. self.new ≡ record self.old {
           origins = self.old.origins ++ origin ∷ [];
         }) (λ _. self.new ≡ self.old) }
@@ -96,14 +96,14 @@ impl Members {
     }
 
     /// Whether an agent has an origin.
-    pub(crate) fn agent_has_origin(&self, agent: AgentId) -> bool
+    pub(crate) fn agent_has_any_origin(&self, agent: AgentId) -> bool
         ensures { result ≡ is_some (unwrap_or (slice_get self.now.origins agent.0) None) }
     {
         self.origins.origin_of_agent(agent).is_some()
     }
 
     /// The group of the agent's channels of a name; `None` where the agent has no origin.
-    pub(crate) fn group_for_agent_and_name(
+    pub(crate) fn group_from_origin_and_name(
         &self,
         agent: AgentId,
         name: Text,
@@ -230,7 +230,7 @@ impl Roster {
     }
 
     /// The source of the cast that goes to the end next.
-    pub(crate) fn source_of_cast_to(&self, end: EndId) -> Option<EndId>
+    pub(crate) fn cast_source_if_next_destination(&self, end: EndId) -> Option<EndId>
         ensures { result ≡ source_for self.now.cast end.0 }
     {
         let cast = self.cast.as_ref()?;
@@ -263,7 +263,7 @@ impl Roster {
     }
 
     /// A poster left the end: where that is the first destination left, it is done with.
-    pub(crate) fn advance_cast(&mut self, end: EndId)
+    pub(crate) fn advance_cast_if_next(&mut self, end: EndId)
         ensures { self.new ≡ record self.old { cast = cast_after end.0 self.old.cast } }
     {
         let Some(cast) = &mut self.cast else {

@@ -26,7 +26,7 @@ impl<V: Named> Depot<V> {
     /// Nothing is kept. It takes no memory.
     pub fn new(alloc: Global) -> Depot<V> {
         Depot {
-            kept: Locked::new(Kept::new(alloc)),
+            kept: Locked::new(Kept::empty(alloc)),
         }
     }
 
@@ -62,7 +62,7 @@ impl<V: Named> Depot<V> {
     }
 
     /// The map behind its lock, for code that is generic over who lends it.
-    pub fn as_locked(&self) -> &Locked<Kept<V>> {
+    pub fn as_lock(&self) -> &Locked<Kept<V>> {
         &self.kept
     }
 

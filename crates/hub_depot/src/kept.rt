@@ -51,7 +51,7 @@ pub enum DepotError<V> {
 /// logarithmic in the number of values kept.
 ///
 /// ```rust
-/// let mut kept = Kept::new(alloc);
+/// let mut kept = Kept::empty(alloc);
 /// kept.put(ticket)?;
 /// let back = kept.take(name);
 /// ```
@@ -76,7 +76,7 @@ impl<V: Named> Model for Kept<V> {
 
 impl<V: Named> Kept<V> {
     /// Nothing is kept. It takes no memory.
-    pub fn new(alloc: Global) -> Kept<V>
+    pub fn empty(alloc: Global) -> Kept<V>
         ensures { result ≡ map.empty }
     {
         Kept {

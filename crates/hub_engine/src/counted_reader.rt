@@ -42,7 +42,7 @@ impl<R: Read> CountedReader<R> {
     /// One read: the count of bytes that it gave, 0 at the end of the input, or `None` where it was
     /// interrupted. `Device` comes where the reader fails otherwise, and in place of a read after
     /// `MAX_READS` of them.
-    pub fn read(&mut self, piece: &mut [u8]) -> Result<Option<usize>, Device>
+    pub fn read_once(&mut self, piece: &mut [u8]) -> Result<Option<usize>, Device>
         ensures bound { IfOk result (λ got. IfSome got (λ count. count ≤ length piece.new)) }
         ensures bytes { GivesBytes (R.remaining (inner_reader self.old))
             (R.remaining (inner_reader self.new)) result piece.new }
@@ -62,11 +62,14 @@ impl<R: Read> CountedReader<R> {
         // The count goes with the call that asks the reader, in one place.
         self.reads += 1;
         let answer = self.reader.read(piece);
-        self.interpret_read_answer(answer)
+        self.check_read_and_count_failure(answer)
     }
 
     /// What the reader's answer means: an interruption is counted, and is no failure.
-    fn interpret_read_answer(&mut self, answer: io::Result<usize>) -> Result<Option<usize>, Device>
+    fn check_read_and_count_failure(
+        &mut self,
+        answer: io::Result<usize>,
+    ) -> Result<Option<usize>, Device>
         ensures ok { IfOk answer (λ count. result ≡ Ok (Some count)) }
         ensures interrupted { IfErr answer (λ error.
             error_kind error ≡ ErrorKind.Interrupted → result ≡ Ok None) }

@@ -25,7 +25,7 @@ pub trait Engine {
     ghost wants_memory: { (input : List ℕ) → output input exit.OutOfMemory out_of_memory };
 
     /// Writes what the input is answered with.
-    fn answer<W: Write>(
+    fn run_and_write_answer<W: Write>(
         alloc: Global,
         input: Vec<u8>,
         writer: &mut CountedWriter<W>,
@@ -46,7 +46,7 @@ pub fn run_engine<E: Engine, R: Read, W: Write>(
         reader.old reader.new writer.old writer.new result }
 {
     match read_input(alloc, reader) {
-        Ok(input) => E::answer(alloc, input, writer),
+        Ok(input) => E::run_and_write_answer(alloc, input, writer),
         Err(InputError::Device) => Err(Device),
         Err(InputError::OutOfMemory) => write_out_of_memory(writer),
     }

@@ -55,7 +55,7 @@ pub fn read_input<R: Read>(
     let mut input = Vec::new(alloc);
     let mut piece = zeros(alloc, PIECE)?;
     loop {
-        if read_more(reader, &mut piece, &mut input)? {
+        if append_piece_or_detect_end(reader, &mut piece, &mut input)? {
             return Ok(input);
         }
     }
@@ -63,7 +63,7 @@ pub fn read_input<R: Read>(
 
 /// One read. It tells whether the input has ended; a read that is interrupted adds nothing. What
 /// neither was interrupted nor gave a byte is the end.
-fn read_more<R: Read>(
+fn append_piece_or_detect_end<R: Read>(
     reader: &mut CountedReader<R>,
     piece: &mut [u8],
     input: &mut Vec<u8>,
@@ -78,7 +78,7 @@ fn read_more<R: Read>(
         × (reads_made reader.new ≡ reads_made reader.old + 1)) }
     ensures failures { CountsFailedRead result (failed_reads reader.old) (failed_reads reader.new) }
 {
-    let Some(count) = reader.read(piece)? else {
+    let Some(count) = reader.read_once(piece)? else {
         return Ok(false);
     };
     input.extend_from_slice(&piece[..count])?;

@@ -14,6 +14,7 @@ pub use counted_writer::CountedWriter;
 pub use engine::{Engine, run_engine};
 pub use input::{InputError, read_input};
 pub use output::{
-    PIECE, write_and_flush, write_input_error, write_kept, write_out_of_memory, write_whole,
+    PIECE, write_and_clear_kept, write_and_flush, write_input_error, write_out_of_memory,
+    write_whole,
 };
 pub use status::{Device, Ending, ExitStatus};

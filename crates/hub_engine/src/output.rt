@@ -31,14 +31,17 @@ pub fn write_whole<W: Write>(writer: &mut CountedWriter<W>, bytes: &[u8]) -> Res
 {
     let mut rest = bytes;
     while !rest.is_empty() {
-        let count = writer.write(rest)?;
+        let count = writer.write_once(rest)?;
         rest = &rest[count..];
     }
     Ok(())
 }
 
 /// Writes the bytes that were kept, and keeps none.
-pub fn write_kept<W: Write>(writer: &mut CountedWriter<W>, kept: &mut Vec<u8>) -> Result<(), Device>
+pub fn write_and_clear_kept<W: Write>(
+    writer: &mut CountedWriter<W>,
+    kept: &mut Vec<u8>,
+) -> Result<(), Device>
     ensures ok { OnOk result (Appends (W.contents (inner_writer writer.old))
         (W.contents (inner_writer writer.new)) kept.old.items) }
     ensures err { OnErr result (AppendsBeginning (W.contents (inner_writer writer.old))

@@ -7,7 +7,7 @@ ghost use Rattle.hub_envelope.specs.BodyText.{IsBodyText};
 ghost use Rattle.hub_envelope.specs.Compact.{IsCompact};
 
 use crate::OutOfMemory;
-use crate::compact::is_compact;
+use crate::compact::is_surely_compact;
 use crate::limits::{MAX_BODY_BYTES, MAX_NESTING};
 use crate::profile::{has_whole_numbers, nests_within};
 use crate::stored_text::StoredText;
@@ -79,10 +79,10 @@ impl Body {
         ensures memory { IsErrOf result BodyError.OutOfMemory → 0 < length text.now }
     {
         // Most texts were compact when they were sent, and needn't be taken apart.
-        if text.len() <= MAX_BODY_BYTES && is_compact(text.as_bytes()) {
+        if text.len() <= MAX_BODY_BYTES && is_surely_compact(text.as_bytes()) {
             Body::copy_of(alloc, text)
         } else {
-            Body::read_value(alloc, text)
+            Body::parse_and_compact(alloc, text)
         }
     }
 
@@ -108,7 +108,7 @@ impl Body {
     }
 
     /// The body of the value that the text reads to.
-    fn read_value(alloc: Global, text: &str) -> Result<Body, BodyError>
+    fn parse_and_compact(alloc: Global, text: &str) -> Result<Body, BodyError>
         ensures ok { IfOk result (λ body. answer_of text.now ≡ Ok body) }
         ensures err { IfErr result
             (λ e. (e ≡ BodyError.OutOfMemory) ⊎ (answer_of text.now ≡ Err e)) }

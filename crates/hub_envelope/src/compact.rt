@@ -16,7 +16,7 @@ const MAX_DIGITS: usize = 18;
 /// Whether the text is recognised as the compact text of a value of the profile, its length aside.
 /// No says nothing: texts with an escape in a key or with a longer number, among others, aren't
 /// recognised.
-pub(crate) fn is_compact(text: &[u8]) -> bool
+pub(crate) fn is_surely_compact(text: &[u8]) -> bool
     ensures { IsTrue result → IsCompact text.now }
 {
     match after_value(text, MAX_NESTING) {
@@ -33,13 +33,13 @@ fn after_value(text: &[u8], levels: usize) -> Option<&[u8]>
 {
     let (first, rest) = text.split_first()?;
     match *first {
-        b'"' => after_string(rest),
+        b'"' => after_closing_quote(rest),
         b'[' if levels > 0 => after_items(rest, levels - 1),
         b'{' if levels > 0 => after_members(rest, levels - 1),
         b'n' => rest.strip_prefix(b"ull"),
         b't' => rest.strip_prefix(b"rue"),
         b'f' => rest.strip_prefix(b"alse"),
-        _ => after_number(text),
+        _ => after_whole_number(text),
     }
 }
 
@@ -113,7 +113,7 @@ fn split_member_key(text: &[u8]) -> Option<(&[u8], &[u8])>
 
 /// What follows a string whose first quote comes before the text. Bytes that need an escape have
 /// their short one.
-fn after_string(text: &[u8]) -> Option<&[u8]>
+fn after_closing_quote(text: &[u8]) -> Option<&[u8]>
     ensures { IfSome result (λ rest. IsFront 0 (34 ∷ text.now) rest.now) }
 {
     let mut rest = text;
@@ -175,19 +175,19 @@ fn is_quote_or_needs_escape(byte: u8) -> bool
 }
 
 /// What stands behind the whole number at the front.
-fn after_number(text: &[u8]) -> Option<&[u8]>
+fn after_whole_number(text: &[u8]) -> Option<&[u8]>
     ensures { IfSome result (λ rest. IsFront 0 text.now rest.now) }
 {
     let (first, rest) = text.split_first()?;
     match *first {
         b'0' => Some(rest),
-        b'-' => after_digits(rest),
-        _ => after_digits(text),
+        b'-' => after_positive_number(rest),
+        _ => after_positive_number(text),
     }
 }
 
 /// What follows the decimal digits at the front, which don't begin with 0.
-fn after_digits(text: &[u8]) -> Option<&[u8]>
+fn after_positive_number(text: &[u8]) -> Option<&[u8]>
     ensures { IfSome result (λ rest. IsNumberBefore text.now rest.now) }
 {
     let count = digit_count(text);

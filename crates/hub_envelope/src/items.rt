@@ -34,7 +34,7 @@ impl<T> Items<T> {
     }
 
     /// The values of a list, which stay where they lie.
-    pub fn of_list(items: Vec<T>) -> Items<T>
+    pub fn from_vec(items: Vec<T>) -> Items<T>
         ensures { result ≡ items.items }
     {
         Items { items }

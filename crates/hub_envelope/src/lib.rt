@@ -24,7 +24,7 @@ pub use ids::{AgentId, EndId, LineId};
 pub use items::Items;
 pub use limits::{
     MAX_AGENTS, MAX_BODY_BYTES, MAX_ENDS, MAX_EXTENSIONS, MAX_HOPS, MAX_LINES, MAX_MOVES,
-    MAX_NESTING, MAX_PORTS, MAX_PUT, MAX_READS, MAX_SCRIPT_LINES, limit_laws,
+    MAX_NESTING, MAX_PORTS, MAX_PUT, MAX_READS, MAX_SCRIPT_LINES, prove_limit_values,
 };
 pub use ports::Ports;
 pub use posted::Posted;

@@ -43,6 +43,6 @@ pub const MAX_EXTENSIONS: u8 = 64;
 pub(crate) const INLINE_BYTES: usize = 24;
 
 /// Each limit as a number. It does nothing.
-pub fn limit_laws()
+pub fn prove_limit_values()
     ensures limits { TheLimits }
 {}

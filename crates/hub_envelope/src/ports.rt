@@ -39,7 +39,7 @@ impl Ports {
     }
 
     /// The listed ports. A list of more than `MAX_PORTS` comes back as it was.
-    pub fn of_list(ends: Vec<EndId>) -> Result<Ports, Vec<EndId>>
+    pub fn try_from_vec(ends: Vec<EndId>) -> Result<Ports, Vec<EndId>>
         ensures fits { IsOk result ↔ (length ends.items ≤ MAX_PORTS) }
         ensures ok { IfOk result (λ ports. ports ≡ ends.items) }
         ensures err { IfErr result (λ list. list ≡ ends) }

@@ -20,7 +20,7 @@ pub struct Posted {
 
 impl Posted {
     /// The name of an envelope.
-    pub fn of(envelope: &Envelope) -> Posted
+    pub fn of_envelope(envelope: &Envelope) -> Posted
         ensures { result ≡ posted_of envelope.now }
     {
         Posted {

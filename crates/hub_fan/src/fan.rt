@@ -7,7 +7,7 @@ use crate::OutOfMemory;
 use crate::asking::take_in_turn;
 use crate::closing::{ClosedFan, FanGrave};
 use crate::hints::{FanWords, Hints, bit_of};
-use crate::places::{any_place_has_some, shut_all};
+use crate::places::{any_place_has_item_or_end, shut_all};
 use hub_channel::Armed;
 use hub_line::{LinePoster, LineTaker, NotPosted, open_line};
 use std::alloc::Global;
@@ -193,7 +193,7 @@ impl<M: Drop> Fan<M> {
     {
         let old = self.hints.words.replace_token(token);
         self.hints.gather();
-        let waits = any_place_has_some(self.lines.as_mut_slice());
+        let waits = any_place_has_item_or_end(self.lines.as_mut_slice());
         Armed { token: old, waits }
     }
 
@@ -213,7 +213,7 @@ impl<M: Drop> Fan<M> {
         shut_all(lines.as_mut_slice());
         ClosedFan {
             grave: FanGrave { lines },
-            token: hints.words.remove_token(),
+            token: hints.words.take_wake_token(),
         }
     }
 }

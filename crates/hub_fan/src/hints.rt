@@ -1,6 +1,6 @@
 //! Which lines of a fan are worth a look first.
 use crate::OutOfMemory;
-use hub_channel::{NO_TOKEN, take_token};
+use hub_channel::{NO_TOKEN, take_wake_token};
 use std::alloc::Global;
 use std::sync::Arc;
 use std::sync::atomic::{AtomicU64, Ordering};
@@ -34,7 +34,7 @@ impl FanWords {
             return NO_TOKEN;
         }
         self.bits.fetch_or(bit, Ordering::SeqCst);
-        take_token(&self.token)
+        take_wake_token(&self.token)
     }
 
     /// Sets the token, and answers the one that was there.
@@ -43,8 +43,8 @@ impl FanWords {
     }
 
     /// Takes the token out.
-    pub(crate) fn remove_token(&self) -> u64 {
-        take_token(&self.token)
+    pub(crate) fn take_wake_token(&self) -> u64 {
+        take_wake_token(&self.token)
     }
 }
 

@@ -27,13 +27,13 @@ pub(crate) fn take_from_closed_place<M: Drop>(place: &mut Option<LineTaker<M>>) 
 }
 
 /// Whether a place has something to take: a message, or the end of its line.
-pub(crate) fn place_has_some<M: Drop>(place: &mut Option<LineTaker<M>>) -> bool
+pub(crate) fn place_has_item_or_end<M: Drop>(place: &mut Option<LineTaker<M>>) -> bool
     ensures same { Keeps place.old place.new }
     ensures some { IsTrue result → Shows place.old place.new }
     ensures none { IsFalse result → GivesNone place.old place.new }
 {
     match place {
-        Some(line) => line.has_some(),
+        Some(line) => line.has_item_or_end(),
         None => false,
     }
 }
@@ -48,13 +48,13 @@ pub(crate) fn shut_place<M: Drop>(place: &mut Option<LineTaker<M>>)
 }
 
 /// Whether some line has something to take.
-pub(crate) fn any_place_has_some<M: Drop>(lines: &mut [Option<LineTaker<M>>]) -> bool
+pub(crate) fn any_place_has_item_or_end<M: Drop>(lines: &mut [Option<LineTaker<M>>]) -> bool
     ensures same { EachPlace Keeps lines.old lines.new }
     ensures some { IsTrue result → SomeShows lines.old lines.new }
     ensures none { IsFalse result → EachPlace GivesNone lines.old lines.new }
 {
     for line in lines.iter_mut() {
-        if place_has_some(line) {
+        if place_has_item_or_end(line) {
             return true;
         }
     }

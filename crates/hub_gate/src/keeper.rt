@@ -8,7 +8,7 @@ ghost use Rattle.std.specs.Slots.{IsFull};
 use crate::gate::{GateSeat, GateSteps, GateTable, Right};
 use crate::plays::{Look, SetFlag};
 use crate::view::KeeperWitness;
-use crate::word::{Flag, has_moved_or_closed_flag, line_count_in};
+use crate::word::{Flag, has_moved_or_closed_flag, inside_line_count};
 use atomic_table::Closed;
 use std::alloc::Global;
 use std::fmt;
@@ -61,7 +61,7 @@ impl<T: Right> Model for Keeper<T> {
 }
 
 /// Takes the right out of each slot, where the seat has all slots in hand, in order.
-fn take_all_rights<T: Right>(
+fn collect_rights_from_slots<T: Right>(
     slots: &GateSteps<T>,
     seat: &mut GateSeat<T>,
     rights: &mut Vec<T>,
@@ -82,7 +82,7 @@ fn take_all_rights<T: Right>(
 }
 
 /// Frees a table that nobody has any more, with what is left in its slots.
-fn free_closed_table<T: Right>(mut closed: Closed<Option<T>, Global>)
+fn free_unshared_table<T: Right>(mut closed: Closed<Option<T>, Global>)
     requires { IsFull closed.slots }
 {
     for slot in 0..closed.slot_count() {
@@ -152,13 +152,13 @@ impl<T: Right> Keeper<T> {
         if !has_moved_or_closed_flag(word) {
             return Looked::Open;
         }
-        let count = line_count_in(word);
+        let count = inside_line_count(word);
         if count > 0 {
             return Looked::StillInside(count as u8);
         }
         let mut rights = self.rights.take().unwrap();
         let lines = table.slot_count();
-        take_all_rights(&table.shared, &mut self.seat, &mut rights, lines);
+        collect_rights_from_slots(&table.shared, &mut self.seat, &mut rights, lines);
         Looked::Rights(rights)
     }
 }
@@ -169,7 +169,7 @@ impl<T: Right> Keeper<T> {
 
     /// The last word of the gate, where no line has its entry any more: it is taken apart, and the
     /// rights that are at home are dropped. Else the keeper comes back.
-    pub fn into_word(self) -> Result<u64, Keeper<T>>
+    pub fn try_into_last_word(self) -> Result<u64, Keeper<T>>
         ensures last { IfOk result (IsLastWord self.at) }
         ensures back { IfErr result (λ keeper. keeper ≡ self) }
     {
@@ -183,7 +183,7 @@ impl<T: Right> Keeper<T> {
             Ok(table) => {
                 let closed = table.close_with(seat);
                 let word = closed.word(0);
-                free_closed_table(closed);
+                free_unshared_table(closed);
                 Ok(word)
             }
             Err(table) => Err(Keeper {

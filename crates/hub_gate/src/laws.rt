@@ -16,7 +16,7 @@ use std::snapshot::Snapshot;
 /// `seats`: nor has any seat a line inside, at any moment.
 /// `steps`: each step changes the word as its event says.
 /// `word`: the parts of the word are flags and count.
-pub fn gate_laws<T: Right>()
+pub fn prove_gate_laws<T: Right>()
     ensures rule { (key : _) → RuleShowsGate T.tag
         (⟦<GateRule<T> as TableRule<Option<T>, View<T>, Snapshot<Vec<T>>>>⟧.holds key) }
     ensures over { NoneInAfterRights T.tag }

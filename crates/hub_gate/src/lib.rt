@@ -17,6 +17,6 @@ mod word;
 pub use entry::{Entered, Entry, Inside, Refusal};
 pub use gate::{Gate, GateError, Right};
 pub use keeper::{Keeper, Looked};
-pub use laws::gate_laws;
+pub use laws::prove_gate_laws;
 pub use view::{EntryWitness, KeeperWitness};
-pub use word::{has_closed_flag, has_enabled_flag, has_moved_flag, line_count_in, word_of};
+pub use word::{has_closed_flag, has_enabled_flag, has_moved_flag, inside_line_count, word_of};

@@ -29,7 +29,7 @@ impl Flag {
 pub(crate) const ONE_LINE: u64 = 256;
 
 /// What the flag adds to a word in which it is set, or not.
-fn flag_value(flag: Flag, is_set: bool) -> u64
+fn flag_bit_if_set(flag: Flag, is_set: bool) -> u64
     ensures { result ≡ flag_bit flag * machine.bit_of is_set }
 {
     if is_set { flag.bit() } else { 0 }
@@ -40,9 +40,9 @@ pub fn word_of(enabled: bool, moved: bool, closed: bool, count: u8) -> u64
     ensures exactly { result ≡ machine.word_of enabled moved closed count }
     ensures greatest { count ≤ MAX_LINES → result ≤ 8199 }
 {
-    let flags = flag_value(Flag::Enabled, enabled)
-        + flag_value(Flag::Moved, moved)
-        + flag_value(Flag::Closed, closed);
+    let flags = flag_bit_if_set(Flag::Enabled, enabled)
+        + flag_bit_if_set(Flag::Moved, moved)
+        + flag_bit_if_set(Flag::Closed, closed);
     flags + count as u64 * ONE_LINE
 }
 
@@ -85,7 +85,7 @@ pub(crate) fn has_moved_or_closed_flag(word: u64) -> bool
 }
 
 /// How many lines the word counts.
-pub fn line_count_in(word: u64) -> u64
+pub fn inside_line_count(word: u64) -> u64
     ensures exactly { result ≡ machine.count_in word }
     ensures part { (e m c : Bool) (k : ℕ) → word ≡ machine.word_of e m c k → result ≡ k }
 {

@@ -17,7 +17,7 @@ pub struct CastGroup<M> {
 }
 
 /// Casts at each member. There is room for all answers.
-fn cast_all<M: Copy + Drop>(
+fn post_to_all_but_source<M: Copy + Drop>(
     members: &mut [GroupMember<M>],
     source: u64,
     message: &M,
@@ -95,7 +95,7 @@ impl<M: Copy + Drop> CastGroup<M> {
             slice_get answers.new j ≡ slice_get answers.old j }
         ensures others { self.new.joined ≡ self.old.joined }
     {
-        cast_all(self.members.as_mut_slice(), source, message, answers);
+        post_to_all_but_source(self.members.as_mut_slice(), source, message, answers);
     }
 
     /// Takes a member out, and gives its line back: whom to wake for it, or 0. Where no member has

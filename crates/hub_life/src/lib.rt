@@ -9,5 +9,5 @@ mod life;
 mod order;
 
 pub use hub_envelope::OutOfMemory;
-pub use life::{Event, Life, LifeError, State, lifecycle_laws};
-pub use order::{Order, order_laws};
+pub use life::{Event, Life, LifeError, State, prove_lifecycle_laws};
+pub use order::{Order, prove_order_laws};

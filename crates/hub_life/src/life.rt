@@ -128,7 +128,7 @@ impl Life {
     }
 
     /// How many extensions of the event that is being handled are open.
-    pub fn extension_count(&self) -> u8
+    pub fn open_extension_count(&self) -> u8
         ensures { result ≡ self.now.open_extensions }
     {
         self.open_extensions
@@ -142,7 +142,7 @@ impl Life {
     }
 
     /// Whether an extension of the event that is being handled has failed.
-    pub fn has_failed(&self) -> bool
+    pub fn has_failed_extension(&self) -> bool
         ensures { result ≡ self.now.failed }
     {
         self.failed
@@ -241,7 +241,7 @@ impl Life {
 /// `forward`: no event leads back to an earlier state.
 /// `failed_install`: a worker whose install has failed can become nothing but redundant.
 /// `activation`: nothing keeps an activating worker from being activated.
-pub fn lifecycle_laws()
+pub fn prove_lifecycle_laws()
     ensures sound { (events : List Event) → IsSound (after_all start events) }
     ensures forward { (p : Progress) (event : Event) →
         stage_of p.state ≤ stage_of (after p event).state }

@@ -8,7 +8,7 @@ ghost use Rattle.hub_line.specs.declared.ring.Ahead.TheVariants.{Open};
 
 use crate::poster::LinePoster;
 use crate::ring::{Ahead, Chained, Feed, Source, Track};
-use crate::taker::{LineTaker, pop_next_track};
+use crate::taker::{LineTaker, poll_next_ring_or_end};
 use rtrb::{Consumer, Producer};
 use std::alloc::Global;
 
@@ -34,7 +34,7 @@ fn count_in_ring<T: Drop>(
 }
 
 /// What waits in a line of which both ends are at hand.
-fn count_in_line<T: Drop>(
+fn count_if_in_one_ring<T: Drop>(
     source: &mut Source<T>,
     tracks: &mut Consumer<Track<T>, Global, Chained>,
     ahead: &mut Ahead<T>,
@@ -57,7 +57,7 @@ fn count_in_line<T: Drop>(
 {
     tracks.slots_beside(rail);
     if let Ahead::Open = ahead {
-        *ahead = pop_next_track(source, tracks);
+        *ahead = poll_next_ring_or_end(source, tracks);
     }
     tracks.slots_beside(rail);
     match ahead {
@@ -84,7 +84,7 @@ impl<T: Drop> LineTaker<T> {
         ensures none { result ≡ None → KnowsItsRingOver self.new }
         ensures others { (self.new.told ≡ self.old.told) × (self.new.empties ≡ self.old.empties) }
     {
-        count_in_line(
+        count_if_in_one_ring(
             &mut self.source,
             &mut self.rail,
             &mut self.ahead,

@@ -74,6 +74,6 @@ impl<T: Drop> LineGrave<T> {
         ensures ended { result ≡ Ended → HasEnded self.new.taker }
         ensures order { IsInOrder self.new.taker }
     {
-        self.taker.take_untold()
+        self.taker.take_without_telling_poster()
     }
 }

@@ -211,7 +211,7 @@ impl<T: Drop> LinePoster<T> {
     }
 
     /// Whether the line is over, since its taker has closed it. This is a call that ends it then.
-    pub fn is_closed_by_taker(&mut self) -> bool
+    pub fn end_if_closed_by_taker(&mut self) -> bool
         ensures line { SamePoster self.old self.new }
         ensures same { posted self.new ≡ posted self.old }
         ensures over { IsTrue result ↔ IsOver self.new }

@@ -42,7 +42,7 @@ pub struct LineTaker<T> {
 
 /// What is heard of how the line goes on.
 #[cold]
-pub(crate) fn pop_next_track<T: Drop>(
+pub(crate) fn poll_next_ring_or_end<T: Drop>(
     source: &mut Source<T>,
     rail: &mut Consumer<Track<T>, Global, Chained>,
 ) -> Ahead<T>
@@ -88,7 +88,7 @@ fn move_to_next_ring<T: Drop>(
 
 /// Whether something can be taken: an item of the ring, or the end.
 #[inline]
-fn can_take<T: Drop>(
+fn advance_to_item_or_end<T: Drop>(
     source: &mut Source<T>,
     rail: &mut Consumer<Track<T>, Global, Chained>,
     ahead: &mut Ahead<T>,
@@ -106,7 +106,7 @@ fn can_take<T: Drop>(
         if !source.is_empty() {
             return true;
         }
-        *ahead = pop_next_track(source, rail);
+        *ahead = poll_next_ring_or_end(source, rail);
     }
     if source.known_items() > 0 {
         return true;
@@ -139,7 +139,7 @@ fn take_next_item<T: Drop>(
     ensures empty { result ≡ Empty → KnowsOfNone source.new ahead.new }
     ensures ended { result ≡ Ended → HasTakenAll source.new ahead.new (received rail.new) }
 {
-    if !can_take(source, rail, ahead) {
+    if !advance_to_item_or_end(source, rail, ahead) {
         return LineTaken::Empty;
     }
     if source.known_items() == 0 {
@@ -166,22 +166,22 @@ impl<T: Drop> LineTaker<T> {
         ensures order { IsInOrder self.new }
         ensures shut { IsShut self.old → IsShut self.new }
     {
-        let taken = self.take_untold();
+        let taken = self.take_without_telling_poster();
         if matches!(taken, LineTaken::Empty) {
-            self.report_empty_ring();
+            self.notify_poster_of_empty_ring();
         }
         taken
     }
 
     /// Whether something can be taken: an item, or the end.
-    pub fn has_some(&mut self) -> bool
+    pub fn has_item_or_end(&mut self) -> bool
         ensures line { SameTaker self.old self.new }
         ensures same { taken self.new ≡ taken self.old }
         ensures some { IsTrue result → HasSome self.new × (self.new.empties ≡ self.old.empties) }
         ensures empty { IsFalse result → HasNoneLeft self.new × HasLooked self.old self.new }
         ensures told { self.new.told ≡ self.old.told }
     {
-        let some = can_take(&mut self.source, &mut self.rail, &mut self.ahead);
+        let some = advance_to_item_or_end(&mut self.source, &mut self.rail, &mut self.ahead);
         if !some {
             self.empties = self.empties.wrapping_add(1);
         }
@@ -190,7 +190,7 @@ impl<T: Drop> LineTaker<T> {
 
     /// Takes the next item, and tells the poster nothing.
     #[inline(always)]
-    pub(crate) fn take_untold(&mut self) -> LineTaken<T>
+    pub(crate) fn take_without_telling_poster(&mut self) -> LineTaken<T>
         ensures line { SameTaker self.old self.new }
         ensures took { Took (taken self.old) result (taken self.new) }
         ensures empty { result ≡ Empty → HasNoneLeft self.new }
@@ -208,7 +208,7 @@ impl<T: Drop> LineTaker<T> {
 
     /// Tells the poster, once a ring, that a large ring was found empty.
     #[inline]
-    fn report_empty_ring(&mut self)
+    fn notify_poster_of_empty_ring(&mut self)
         ensures same { (self.new.source ≡ self.old.source) × (self.new.rail ≡ self.old.rail)
             × (self.new.ahead ≡ self.old.ahead) × (self.new.empties ≡ self.old.empties) }
         ensures shut { IsShut self.old → IsShut self.new }

@@ -6,7 +6,7 @@ use std::test::Fail;
 #[test]
 fn a_token_is_handed_out_once(rt: HostRuntime) -> Result<(), Fail> {
     let (mut left, mut right) = open_channel(rt.alloc(), 9)?;
-    assert_eq!(rt; left.name(), 9);
+    assert_eq!(rt; left.channel_name(), 9);
     assert_eq!(rt; right.arm(41).token, 0);
     assert_eq!(rt; right.arm(42).token, 41);
     assert!(rt; matches!(left.post(1u64), Ok(42)));

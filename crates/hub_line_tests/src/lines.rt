@@ -60,9 +60,9 @@ fn a_line_grows_and_ends(rt: HostRuntime) -> Result<(), Fail> {
 #[test]
 fn a_dropped_poster_ends_an_empty_line(rt: HostRuntime) -> Result<(), Fail> {
     let (poster, mut taker) = open_line::<u64>(rt.alloc())?;
-    assert!(rt; !taker.has_some());
+    assert!(rt; !taker.has_item_or_end());
     drop(poster);
-    assert!(rt; taker.has_some());
+    assert!(rt; taker.has_item_or_end());
     assert!(rt; matches!(taker.take(), LineTaken::Ended));
     Ok(())
 }
@@ -90,7 +90,7 @@ fn both_ends_know_what_waits(rt: HostRuntime) -> Result<(), Fail> {
     assert!(rt; posts(&mut poster, 16, 17));
     assert_eq!(rt; taker.count_waiting_with_poster(&mut poster), None);
     assert!(rt; takes(&mut taker, 0, 16));
-    assert!(rt; taker.has_some());
+    assert!(rt; taker.has_item_or_end());
     assert_eq!(rt; taker.count_waiting_with_poster(&mut poster), Some(1));
     Ok(())
 }
@@ -120,10 +120,10 @@ fn a_closed_line_hands_back_what_was_posted(rt: HostRuntime) -> Result<(), Fail>
 #[test]
 fn a_poster_that_asks_ends_a_closed_line(rt: HostRuntime) -> Result<(), Fail> {
     let (mut poster, taker) = open_line::<u64>(rt.alloc())?;
-    assert!(rt; !poster.is_closed_by_taker());
+    assert!(rt; !poster.end_if_closed_by_taker());
     let mut grave = taker.close();
     assert!(rt; matches!(grave.take_leftover(), LineTaken::Empty));
-    assert!(rt; poster.is_closed_by_taker());
+    assert!(rt; poster.end_if_closed_by_taker());
     assert!(rt; matches!(grave.take_leftover(), LineTaken::Ended));
     Ok(())
 }

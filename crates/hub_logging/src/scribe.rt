@@ -13,7 +13,7 @@ ghost use Rattle.hub_trace.specs.declared.log_entry.LogEntry.TheVariants.{
 
 use hub_envelope::{AgentId, Body, EndId, Envelope, OutOfMemory, Posted};
 use hub_loop::Handler;
-use hub_trace::{Content, Log, MAX_END, MAX_EPOCH, Payload, is_name, is_port_list};
+use hub_trace::{Content, Log, MAX_END, MAX_EPOCH, Payload, is_port_list, is_posted_within_limits};
 use std::alloc::Global;
 use std::collections::BTreeSet;
 use std::marker::Model;
@@ -114,7 +114,7 @@ impl Scribe {
     }
 
     /// Takes it out, and leaves one that has logged nothing.
-    pub fn take_leaving_empty(&mut self) -> Scribe
+    pub fn replace_with_empty(&mut self) -> Scribe
         ensures given { result ≡ self.old }
         ensures left { self.new
             ≡ record { log = (self.old.log.0, []); adopted = []; messages = 0 } }
@@ -152,7 +152,7 @@ impl Scribe {
     }
 
     /// Takes out the ports of the envelope that was delivered last which the loop holds.
-    pub fn take_adopted(&mut self) -> Vec<EndId>
+    pub fn take_ports_of_last_delivery(&mut self) -> Vec<EndId>
         ensures given { result.items ≡ self.old.adopted }
         ensures taken { self.new ≡ record self.old { adopted = [] } }
     {
@@ -196,7 +196,7 @@ impl Scribe {
         }) }
         ensures err { OnErr result (self.new ≡ self.old) }
     {
-        if !is_name(&posted) {
+        if !is_posted_within_limits(&posted) {
             return Err(OutOfMemory);
         }
         self.log.record_put(posted, content)
@@ -211,8 +211,8 @@ impl Scribe {
         ensures loggable { OnOk result (IsLoggable envelope.now) }
         ensures err { OnErr result (self.new ≡ self.old) }
     {
-        let posted = Posted::of(envelope);
-        if !is_name(&posted) {
+        let posted = Posted::of_envelope(envelope);
+        if !is_posted_within_limits(&posted) {
             return Err(OutOfMemory);
         }
         let content = self.content_of_delivery(envelope)?;
@@ -246,7 +246,7 @@ impl Scribe {
         if u64::from(end.0) > MAX_END || !self.closed.insert(end.0)? {
             return Err(OutOfMemory);
         }
-        self.log.record_closed(end)
+        self.log.record_end_closed(end)
     }
 }
 

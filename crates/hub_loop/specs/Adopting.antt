@@ -3,20 +3,18 @@ use Rattle.std.specs.Prelude.{◌≡◌, ◌⊎◌, ℕ, true, false, List, [], 
 use Rattle.std.specs.List.Sorted.{IsPermutation}
 use Rattle.slab.specs.Slab.{Slab, get, Updates, SameValues}
 use Rattle.hub_clients.specs.declared.handed.HandedQueue.{HandedQueue}
-use Rattle.hub_clients.specs.declared.handed.HandedQueue.TheVariants as handed
-use Rattle.hub_clients.specs.Handing.{taker_of, IsAdoptedAndStarted}
+use Rattle.hub_clients.specs.Handing.{taker_of, IsHandedAdopted}
 use Rattle.hub_envelope.specs.declared.ids.EndId.{EndId}
 use Rattle.hub_ports.specs.Adopting.{IsReceived}
 use Rattle.hub_ports.specs.Seats.{PortSeat, end_of}
 use Rattle.hub_queue.specs.declared.error.AdoptError.{AdoptError}
 use Rattle.hub_queue.specs.declared.error.AdoptError.TheVariants as why
-use Rattle.hub_queue.specs.Adopting.{IsAdopted}
 use Rattle.hub_queue.specs.Ending.{IsClosed}
 use Rattle.hub_queue.specs.Graves.{GraveSeat}
-use Rattle.hub_queue.specs.Taking.{TakerSeat}
 use Rattle.hub_ports.specs.declared.closing.ClosedPort.{ClosedPort}
 use Rattle.hub_loop.specs.declared.held.Held.{Held}
-use Rattle.hub_loop.specs.declared.held.Held.TheVariants.{Port, Client, Worker}
+use Rattle.hub_loop.specs.declared.held.Held.TheVariants.{Port}
+use Rattle.hub_loop.specs.Holding.{held_queue}
 use Rattle.hub_loop.specs.States.{ClosedState, HoldingState, ReceivingState}
 use Rattle.hub_ports.specs.Closing.{IsTold}
 
@@ -81,16 +79,12 @@ abbrev pub AreAllAdopted : {E : Type 0} → ReceivingState → ReceivingState �
 AreAllAdopted old new before after (Ok all) = (new.found ≡ []) × AreAdopted old.found before after old.missing new.missing
 AreAllAdopted old new before after (Err error) = (done : List PortSeat) × ArePartlyAdopted old new before after done
 
--- The queue was adopted and stands so where it is held; a worker's was enabled then.
-abbrev pub IsHeldAs : HandedQueue → Held → Type 0
-IsHeldAs (handed.Client t) h = (u : TakerSeat) × (h ≡ Client u) × IsAdopted t (Ok u)
-IsHeldAs (handed.Worker t) h = (u : TakerSeat) × (h ≡ Worker u) × IsAdoptedAndStarted t (Ok u)
-
 -- True: the queue was adopted and is held. False: it was refused for good and closed.
 abbrev pub IsQueueAdopted : HandedQueue → HoldingState → HoldingState → Bool → Type 0
-IsQueueAdopted q old new true = (h : Held) × IsHeldAs q h × HoldsMore old.ends.held new.ends.held h × SameClosed old.closed new.closed
+IsQueueAdopted q old new true =
+    (adopted : HandedQueue) × IsHandedAdopted q (Ok adopted) × HoldsMore old.ends.held new.ends.held (held_queue adopted) × SameClosed old.closed new.closed
 IsQueueAdopted q old new false =
-    (error : AdoptError) × IsUnfit error × IsAdopted (taker_of q) (Err (error, taker_of q)) × SameValues old.ends.held new.ends.held × IsQueueBuried q old.closed new.closed
+    (error : AdoptError) × IsUnfit error × IsHandedAdopted q (Err (error, q)) × SameValues old.ends.held new.ends.held × IsQueueBuried q old.closed new.closed
 
 -- Of the queues that were fetched this one was taken out, or they are as they were.
 abbrev pub IsTakenFrom : HandedQueue → List HandedQueue → List HandedQueue → Type 0

@@ -94,8 +94,8 @@ impl<H: Handler + Drop, C: Checkpoint + Drop> EventLoop<H, C> {
             × (end_of port.now ≡ end)) }
         ensures none { IfNone result (HoldsNoPort self.old.holding.ends.held end) }
     {
-        let key = self.holding.ends.find_end(Sought::Port, end)?;
-        self.holding.ends.lend_and_mark(key)?.as_port_mut()
+        let key = self.holding.ends.find_key_of_end(Sought::Port, end)?;
+        self.holding.ends.mark_and_borrow(key)?.as_port_mut()
     }
 
     /// Lends the client's queue of this number. `None` where the loop doesn't hold it.
@@ -104,8 +104,8 @@ impl<H: Handler + Drop, C: Checkpoint + Drop> EventLoop<H, C> {
             Holds self.old.holding.ends.held (ClientHeld queue.now) × (queue.now.end ≡ end.0)) }
         ensures none { IfNone result (HoldsNoClient self.old.holding.ends.held end) }
     {
-        let key = self.holding.ends.find_end(Sought::Client, end)?;
-        self.holding.ends.lend_and_mark(key)?.as_client_mut()
+        let key = self.holding.ends.find_key_of_end(Sought::Client, end)?;
+        self.holding.ends.mark_and_borrow(key)?.as_client_mut()
     }
 
     /// Lends the member of this number. `None` where the loop doesn't hold it.
@@ -115,8 +115,8 @@ impl<H: Handler + Drop, C: Checkpoint + Drop> EventLoop<H, C> {
             × (member.now.taker.end ≡ end.0)) }
         ensures none { IfNone result (HoldsNoMember self.old.holding.ends.held end) }
     {
-        let key = self.holding.ends.find_end(Sought::Member, end)?;
-        self.holding.ends.lend_and_mark(key)?.as_member_mut()
+        let key = self.holding.ends.find_key_of_end(Sought::Member, end)?;
+        self.holding.ends.mark_and_borrow(key)?.as_member_mut()
     }
 
     /// Lends a line that posts at the end of this number. `None` where the loop holds none.
@@ -126,7 +126,7 @@ impl<H: Handler + Drop, C: Checkpoint + Drop> EventLoop<H, C> {
         ensures none { IfNone result (HoldsNoLine self.old.holding.ends.held end) }
     {
         let key = self.holding.ends.find_line_to(end)?;
-        self.holding.ends.lend_and_mark(key)?.as_line_mut()
+        self.holding.ends.mark_and_borrow(key)?.as_line_mut()
     }
 
     /// Whether it holds a line that posts at the end of this number.
@@ -160,7 +160,7 @@ impl<H: Handler + Drop, C: Checkpoint + Drop> EventLoop<H, C> {
             × (member.now.taker.end ≡ end.0)) }
         ensures none { IfNone result (HoldsNoMember self.now.holding.ends.held end) }
     {
-        let key = self.holding.ends.find_end(Sought::Member, end)?;
+        let key = self.holding.ends.find_key_of_end(Sought::Member, end)?;
         match self.holding.ends.held.get(key)? {
             Held::Member(member) => Some(member),
             _ => None,
@@ -173,7 +173,7 @@ impl<H: Handler + Drop, C: Checkpoint + Drop> EventLoop<H, C> {
             × (end_held held.now ≡ Some end)) }
         ensures none { IfNone result (HoldsNoEnd self.now.holding.ends.held end) }
     {
-        let key = self.holding.ends.find_end(Sought::End, end)?;
+        let key = self.holding.ends.find_key_of_end(Sought::End, end)?;
         self.holding.ends.held.get(key)
     }
 

@@ -2,19 +2,15 @@
 
 ghost use Rattle.std.specs.Prelude.{
   ◌≡◌,
-  Err,
   IfOk,
   OnOk,
   IfErr,
   OnErr,
 };
 ghost use Rattle.slab.specs.Slab.{HasRoomFor};
-ghost use Rattle.hub_clients.specs.Handing.{taker_of};
-ghost use Rattle.hub_queue.specs.Adopting.{IsAdopted};
 ghost use Rattle.hub_loop.specs.Adopting.{
   AreAllAdopted,
   IsFirstAdopted,
-  IsHeldAs,
   IsQueueAdopted,
   SameStored,
 };
@@ -29,32 +25,9 @@ use crate::ends::Holding;
 use crate::held::Held;
 use hub_clients::HandedQueue;
 use hub_envelope::{EndId, OutOfMemory};
-use hub_ports::{Hub, Port};
+use hub_ports::Hub;
 use hub_queue::{AdoptError, Bell};
 use std::sync::Wait;
-
-/// Adopts a queue for the loop that this bell wakes.
-fn adopt_handed_queue<R: Wait>(
-    rt: &R,
-    hub: &Hub,
-    queue: HandedQueue,
-    bell: Bell,
-) -> Result<Held, (AdoptError, HandedQueue)>
-    ensures ok { IfOk result (IsHeldAs queue) }
-    ensures err { IfErr result (λ refused. (refused.1 ≡ queue)
-        × IsAdopted (taker_of queue) (Err (refused.0, taker_of queue))) }
-{
-    match queue {
-        HandedQueue::Client(queue) => match queue.adopt(rt, &hub.yard, bell) {
-            Ok(queue) => Ok(Held::Client(queue)),
-            Err((error, queue)) => Err((error, HandedQueue::Client(queue))),
-        },
-        HandedQueue::Worker(queue) => match queue.adopt(rt, &hub.yard, bell) {
-            Ok(queue) => Ok(Held::Worker(queue)),
-            Err((error, queue)) => Err((error, HandedQueue::Worker(queue))),
-        },
-    }
-}
 
 impl Holding {
     /// Adopts a queue that was fetched, and holds it. False where it was refused for good: then it
@@ -71,15 +44,15 @@ impl Holding {
         ensures err { OnErr result (SameStored (holding_of self.old) (holding_of self.new)) }
         ensures marks { MarksKept self.old.ends self.new.ends }
     {
-        let Ok(bell) = self.prepare(queue.id()) else {
+        let Ok(bell) = self.reserve_and_clone_bell(queue.id()) else {
             return Err(queue);
         };
-        match adopt_handed_queue(rt, hub, queue, bell) {
-            Ok(held) => {
-                self.ends.put(held);
+        match queue.adopt(rt, &hub.yard, bell) {
+            Ok(queue) => {
+                self.ends.hold_reserved(Held::from(queue));
                 Ok(true)
             }
-            Err((AdoptError::OutOfMemory, queue)) => { Err(queue) }
+            Err((AdoptError::OutOfMemory, queue)) => Err(queue),
             Err((AdoptError::TooManyMoves | AdoptError::Taken, queue)) => {
                 self.closed.graves.push_reserved(queue.close());
                 Ok(false)
@@ -88,7 +61,7 @@ impl Holding {
     }
 
     /// Makes room for an end of this number that is to be adopted, and for what it is closed to.
-    fn prepare(&mut self, end: EndId) -> Result<Bell, OutOfMemory>
+    fn reserve_and_clone_bell(&mut self, end: EndId) -> Result<Bell, OutOfMemory>
         ensures held { OnOk result (HasRoomFor self.new.ends.held 1) }
         ensures bit { OnOk result (HasBit self.new.ends.ready.marks self.new.ends.held.vacant_key) }
         ensures room { OnOk result (HasRoom self.new.closed 1) }
@@ -118,11 +91,11 @@ impl Holding {
         };
         let end = first.id();
         receiving.missing.reserve(1)?;
-        let bell = self.prepare(end)?;
+        let bell = self.reserve_and_clone_bell(end)?;
         let arrived = receiving.found.pop_front().unwrap();
         match arrived.adopt(rt, hub, bell) {
             Ok(port) => {
-                self.ends.put(Held::Port(port));
+                self.ends.hold_reserved(Held::Port(port));
                 Ok(true)
             }
             Err((AdoptError::OutOfMemory, arrived)) => {

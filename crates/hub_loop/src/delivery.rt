@@ -54,7 +54,7 @@ impl Model for Receiving {
 
 impl Undelivered {
     /// Looks for the ports, where that wasn't done before.
-    fn find_ports<R: Wait>(&mut self, rt: &R, hub: &Hub) -> Result<(), OutOfMemory>
+    fn take_ports_from_flight_once<R: Wait>(&mut self, rt: &R, hub: &Hub) -> Result<(), OutOfMemory>
         ensures envelope { self.new.envelope ≡ self.old.envelope }
         ensures ok { IfOk result (λ _.
             (r : ReceivingState) × (self.new.arrival ≡ Some r) × IsLookedFor self.old r) }
@@ -86,7 +86,7 @@ impl Undelivered {
             (holding_of holding.old) (holding_of holding.new) handler.old handler.new result }
         ensures marks { MarksKept holding.old.ends holding.new.ends }
     {
-        self.find_ports(rt, hub)?;
+        self.take_ports_from_flight_once(rt, hub)?;
         let Some(receiving) = &mut self.arrival else {
             unreachable!();
         };

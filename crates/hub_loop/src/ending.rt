@@ -100,7 +100,7 @@ impl Closed {
     }
 
     /// Closes an end, or keeps a line.
-    fn close_and_record<R: Wait>(&mut self, rt: &R, hub: &Hub, opened: Held)
+    fn close_end_or_keep_line<R: Wait>(&mut self, rt: &R, hub: &Hub, opened: Held)
         requires { HasRoom self.old 1 }
         ensures graves { grave_ends self.new.graves.items
             ≡ grave_ends self.old.graves.items ++ open_ends (opened ∷ []) }
@@ -118,7 +118,7 @@ impl Closed {
     }
 
     /// Closes these, in order. There is room for what they are closed to.
-    pub(crate) fn close_and_record_all<R: Wait>(&mut self, rt: &R, hub: &Hub, all: Vec<Held>)
+    pub(crate) fn close_ends_and_keep_lines<R: Wait>(&mut self, rt: &R, hub: &Hub, all: Vec<Held>)
         requires { HasRoom self.old (vec_len all) }
         ensures graves { grave_ends self.new.graves.items
             ≡ grave_ends self.old.graves.items ++ open_ends all.items }
@@ -126,21 +126,25 @@ impl Closed {
             self.new.noticed.items }
     {
         for opened in all {
-            self.close_and_record(rt, hub, opened);
+            self.close_end_or_keep_line(rt, hub, opened);
         }
     }
 }
 
 /// Takes the members among these out of the roster, before the first end is closed: nobody casts at
 /// a member of an agent whose queue is closed already.
-pub(crate) fn leave_roster<L: Lends<Roster>, R: Wait>(rt: &R, roster: &mut L, all: &[Held]) {
+pub(crate) fn remove_members_from_roster<L: Lends<Roster>, R: Wait>(
+    rt: &R,
+    roster: &mut L,
+    all: &[Held],
+) {
     for opened in all {
         opened.remove_from_roster(rt, roster);
     }
 }
 
 /// How many ports were found for a delivery and not adopted yet.
-fn count_found_ports(kept: &Option<Undelivered>) -> usize
+fn count_unadopted_ports(kept: &Option<Undelivered>) -> usize
     ensures { result ≡ length (found_of kept.now) }
 {
     match kept {
@@ -164,12 +168,12 @@ fn count_all_to_close(
 {
     let count = held.len().checked_add(fetched.len()).ok_or(OutOfMemory)?;
     count
-        .checked_add(count_found_ports(kept))
+        .checked_add(count_unadopted_ports(kept))
         .ok_or(OutOfMemory)
 }
 
 /// Takes out the ports that were found for a delivery and not adopted yet.
-fn take_found_ports(alloc: Global, kept: &mut Option<Undelivered>) -> VecDeque<Arrived>
+fn take_unadopted_ports(alloc: Global, kept: &mut Option<Undelivered>) -> VecDeque<Arrived>
     ensures items { result.items ≡ found_of kept.old }
     ensures len { deque_len result ≡ length (found_of kept.old) }
 {
@@ -241,7 +245,7 @@ impl Holding {
         self.closed.reserve(count)?;
         add_held_ends(self.ends.take_all_held(alloc), &mut opened);
         add_fetched_queues(replace(fetched, Vec::new(alloc)), &mut opened);
-        add_found_ports(take_found_ports(alloc, kept), &mut opened);
+        add_found_ports(take_unadopted_ports(alloc, kept), &mut opened);
         Ok(opened)
     }
 
@@ -264,8 +268,8 @@ impl Holding {
     {
         let mut opened = self.take_all_to_close(alloc, fetched, kept)?;
         opened.sort_unstable_by_key(|open| open.id().0);
-        leave_roster(rt, roster, opened.as_slice());
-        self.closed.close_and_record_all(rt, hub, opened);
+        remove_members_from_roster(rt, roster, opened.as_slice());
+        self.closed.close_ends_and_keep_lines(rt, hub, opened);
         let closed = replace(&mut self.closed, Closed::new(alloc));
         Ok(Shutdown::new(alloc, closed))
     }

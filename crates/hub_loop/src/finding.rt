@@ -44,13 +44,13 @@ fn record_line_key(
 }
 
 /// The least key that is listed under this number.
-fn first_line_key(lines: &BTreeSet<(EndId, usize)>, end: EndId) -> Option<usize> {
+fn first_line_key_to_end(lines: &BTreeSet<(EndId, usize)>, end: EndId) -> Option<usize> {
     let found = lines.range((end, 0)..=(end, usize::MAX)).next()?;
     Some(found.1)
 }
 
 /// Whether the end of this kind and number is held there.
-fn is_end_of_kind(slot: Option<&Held>, kind: Sought, end: EndId) -> bool
+fn is_end_of_kind_and_number(slot: Option<&Held>, kind: Sought, end: EndId) -> bool
     ensures { (result ≡ true) ↔ IsSlotOf (IsEndOf kind end) (option_copied slot.entry) }
 {
     match slot {
@@ -83,13 +83,13 @@ pub(crate) fn first_marked_in_range(marks: &Marks, low: usize, high: usize) -> O
 
 impl HeldEnds {
     /// Holds one more, for which there is room. An end is marked, since something may wait there.
-    pub(crate) fn put(&mut self, held: Held)
+    pub(crate) fn hold_reserved(&mut self, held: Held)
         requires room { HasRoomFor self.old.held 1 }
         requires bit { HasBit self.old.ready.marks self.old.held.vacant_key }
         ensures held { HoldsMore self.old.held self.new.held held }
         ensures marks { MarksKept self.old self.new }
     {
-        let end = held.end_id();
+        let end = held.id_unless_line();
         let key = self.held.insert_reserved(held);
         if let Some(end) = end {
             self.ready.mark_and_list(end, key);
@@ -103,13 +103,13 @@ impl HeldEnds {
         ensures err { OnErr result (SameValues self.old.held self.new.held) }
         ensures marks { MarksKept self.old self.new }
     {
-        if self.make_room(held.end_id()).is_err() {
+        if self.make_room(held.id_unless_line()).is_err() {
             return Err((LoopError::OutOfMemory, held));
         }
         if record_line_key(&mut self.lines, &held, self.held.vacant_key()).is_err() {
             return Err((LoopError::OutOfMemory, held));
         }
-        self.put(held);
+        self.hold_reserved(held);
         Ok(())
     }
 
@@ -138,13 +138,13 @@ impl HeldEnds {
         ensures missing { IfNone result (HoldsNoEnd self.old.held end) }
         ensures marks { MarksKept self.old self.new }
     {
-        let key = self.find_end(Sought::End, end)?;
+        let key = self.find_key_of_end(Sought::End, end)?;
         self.ready.unmark_and_unlist(end, key);
         self.held.try_remove(key)
     }
 
     /// The marked key under which the end of this kind and number is held.
-    fn find_marked(&self, kind: Sought, end: EndId) -> Option<usize>
+    fn find_marked_key_of_end(&self, kind: Sought, end: EndId) -> Option<usize>
         ensures some { IfSome result (λ key. IsSlotOf (IsEndOf kind end) (get self.now.held key)) }
         ensures none { IfNone result ((key : ℕ) → mark_of self.now.ready.marks key ≡ 1 →
             IsSlotOf (IsEndOf kind end) (get self.now.held key) → ⊥) }
@@ -152,7 +152,7 @@ impl HeldEnds {
         let high = self.held.capacity();
         let mut key = 0;
         'marks: while let Some(marked) = first_marked_in_range(&self.ready.marks, key, high) {
-            if is_end_of_kind(self.held.get(marked), kind, end) {
+            if is_end_of_kind_and_number(self.held.get(marked), kind, end) {
                 return Some(marked);
             }
             key = marked + 1;
@@ -161,15 +161,15 @@ impl HeldEnds {
     }
 
     /// The key of the end of this kind and number. Its number leads there, unless it is marked.
-    pub(crate) fn find_end(&self, kind: Sought, end: EndId) -> Option<usize>
+    pub(crate) fn find_key_of_end(&self, kind: Sought, end: EndId) -> Option<usize>
         ensures { IsFound (IsEndOf kind end) self.now.held result }
     {
         if let Some(key) = self.ready.key_of_end(end) {
-            if is_end_of_kind(self.held.get(key), kind, end) {
+            if is_end_of_kind_and_number(self.held.get(key), kind, end) {
                 return Some(key);
             }
         }
-        self.find_marked(kind, end)
+        self.find_marked_key_of_end(kind, end)
     }
 
     /// The key of a line that posts at the end of this number. A borrower may have left another one
@@ -177,7 +177,7 @@ impl HeldEnds {
     pub(crate) fn find_line_to(&self, end: EndId) -> Option<usize>
         ensures { IsFound (IsLineTo end) self.now.held result }
     {
-        if let Some(key) = first_line_key(&self.lines, end) {
+        if let Some(key) = first_line_key_to_end(&self.lines, end) {
             if is_line_to(self.held.get(key), end) {
                 return Some(key);
             }
@@ -191,7 +191,7 @@ impl HeldEnds {
     }
 
     /// Lends what is held under a key, and marks it: whoever borrows an end may start it.
-    pub(crate) fn lend_and_mark(&mut self, key: usize) -> Option<&mut Held>
+    pub(crate) fn mark_and_borrow(&mut self, key: usize) -> Option<&mut Held>
         ensures { option_copied_mut result ≡ get self.old.held key }
     {
         if !self.held.contains(key) {
@@ -207,7 +207,7 @@ impl HeldEnds {
         ensures held { IsStartedAs kind self.old.held self.new.held end result }
         ensures marks { MarksKept self.old self.new }
     {
-        let Some(key) = self.find_end(kind, end) else {
+        let Some(key) = self.find_key_of_end(kind, end) else {
             return false;
         };
         match self.held.get_mut(key) {
@@ -226,7 +226,7 @@ impl HeldEnds {
     {
         let mut numbers = Vec::new(alloc);
         for (_, held) in self.held.iter() {
-            if let Some(end) = held.end_id() {
+            if let Some(end) = held.id_unless_line() {
                 numbers.push(end)?;
             }
         }

@@ -74,7 +74,7 @@ impl Held {
     }
 
     /// The number of the end, where it is no line.
-    pub(crate) fn end_id(&self) -> Option<EndId>
+    pub(crate) fn id_unless_line(&self) -> Option<EndId>
         ensures { result ≡ end_held self.now }
     {
         match self {
@@ -179,7 +179,11 @@ impl Held {
 
     /// Takes at an end, past the queues from which everything was taken. It is never answered
     /// `Again`.
-    pub(crate) fn ask<L: Ledger, R: Wait>(&mut self, rt: &R, steps: &mut Steps<L>) -> Option<Took>
+    pub(crate) fn take_past_emptied_queues<L: Ledger, R: Wait>(
+        &mut self,
+        rt: &R,
+        steps: &mut Steps<L>,
+    ) -> Option<Took>
         ensures { IsHeldAsked self.old self.new steps.old steps.new result }
     {
         for _ in 0..self.behind() {

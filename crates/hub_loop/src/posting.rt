@@ -13,7 +13,7 @@ use crate::event_loop::EventLoop;
 use crate::handler::{Checkpoint, Handler};
 use crate::held::{Held, Sought};
 use hub_envelope::{AgentId, EndId};
-use hub_ports::{Closings, Hub, Parcel, SendRefusal, send_parcel};
+use hub_ports::{Closings, Hub, Parcel, SendRefusal, send_parcel_over_line};
 use hub_queue::Posted;
 use std::sync::Wait;
 
@@ -50,7 +50,7 @@ impl Held {
     {
         match self {
             Held::Port(port) => Some(port.post_parcel(rt, hub, agent, parcel, closings)),
-            Held::Line(line) => Some(send_parcel(line, rt, hub, agent, parcel, closings)),
+            Held::Line(line) => Some(send_parcel_over_line(line, rt, hub, agent, parcel, closings)),
             _ => None,
         }
     }
@@ -58,11 +58,11 @@ impl Held {
 
 impl HeldEnds {
     /// The key of the port or the line over which this goes.
-    fn find_port_or_line(&self, way: Way) -> Option<usize>
+    fn find_key_of_port_or_line(&self, way: Way) -> Option<usize>
         ensures { IsFound (IsWay way) self.now.held result }
     {
         match way {
-            Way::Port(end) => self.find_end(Sought::Port, end),
+            Way::Port(end) => self.find_key_of_end(Sought::Port, end),
             Way::Line(end) => self.find_line_to(end),
         }
     }
@@ -88,7 +88,7 @@ impl HeldEnds {
         ensures back { IfNone result (parcel.new ≡ parcel.old) }
         ensures marks { SameMarks self.old self.new }
     {
-        let key = self.find_port_or_line(way)?;
+        let key = self.find_key_of_port_or_line(way)?;
         self.held
             .get_mut(key)?
             .post(rt, hub, agent, parcel, closings)
@@ -97,7 +97,7 @@ impl HeldEnds {
 
 impl<H: Handler + Drop, C: Checkpoint + Drop> EventLoop<H, C> {
     /// Posts a body with ports that are sent along: over a port as `Port::post_parcel` does, over a
-    /// line as `hub_ports::send_parcel` does. `None` where the loop doesn't hold that port or a
+    /// line as `hub_ports::send_parcel_over_line` does. `None` where the loop doesn't hold that port or a
     /// line to that end: then the parcel is as it was.
     #[inline(always)]
     pub fn post<R: Wait>(

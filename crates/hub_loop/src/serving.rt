@@ -60,7 +60,7 @@ fn ask_end_at_key<L: Ledger, R: Wait>(
     ensures { IsAskedAt held.old held.new key steps.old steps.new result }
 {
     match held.get_mut(key) {
-        Some(held) => Served::from_answer(key, held.ask(rt, steps)),
+        Some(held) => Served::from_answer(key, held.take_past_emptied_queues(rt, steps)),
         None => Served::Nothing(false),
     }
 }
@@ -71,7 +71,7 @@ fn may_clear_mark(held: &Slab<Held>, ready: &Ready, key: usize) -> bool
     ensures { result ≡ true → IsListedAt ready.now.listed.items key (get held.now key) }
 {
     match held.get(key) {
-        Some(held) => match held.end_id() {
+        Some(held) => match held.id_unless_line() {
             Some(end) => ready.is_key_of_end(end, key),
             None => true,
         },
@@ -87,7 +87,7 @@ enum Which {
 }
 
 /// The first of these keys from the one up to the other.
-fn first_key_in_range(marks: &Marks, which: Which, low: usize, high: usize) -> Option<usize>
+fn first_key_to_ask_in_range(marks: &Marks, which: Which, low: usize, high: usize) -> Option<usize>
     ensures some { IfSome result (λ key. (low ≤ key) × (key < high)
         × NoneBetween which marks.now low key) }
     ensures none { IfNone result (NoneBetween which marks.now low high) }
@@ -128,7 +128,7 @@ impl HeldEnds {
 
     /// Asks these ends of a range in order, up to the first that gives an envelope: the next asking
     /// begins behind it. `was` tells whether an end was busy before.
-    // It is inlined, and so is `take_from_marked`, since each return would copy an envelope.
+    // It is inlined, and so is `take_one_asking_marked`, since each return would copy an envelope.
     #[inline(always)]
     fn take_in_range<L: Ledger, R: Wait>(
         &mut self,
@@ -148,7 +148,12 @@ impl HeldEnds {
     {
         let mut busy = was;
         let mut from = low;
-        'keys: while let Some(key) = first_key_in_range(&self.ready.marks, which, from, high) {
+        'keys: while let Some(key) = first_key_to_ask_in_range(
+            &self.ready.marks,
+            which,
+            from,
+            high,
+        ) {
             match self.ask_and_mark(rt, key, steps) {
                 Served::Nothing(here) => busy = here | busy,
                 served => {
@@ -164,7 +169,7 @@ impl HeldEnds {
     /// Looks which ends were rung, and asks the marked ones in order, from the next key on and then
     /// from the first.
     #[inline(always)]
-    fn take_from_marked<L: Ledger, R: Wait>(
+    fn take_one_asking_marked<L: Ledger, R: Wait>(
         &mut self,
         rt: &R,
         listener: &mut Listener,
@@ -189,7 +194,7 @@ impl HeldEnds {
     /// Asks each end of a range in order, up to the first that gives an envelope. From time to time
     /// it serves the marked ones first.
     #[inline(never)]
-    fn take_from_each<L: Ledger, R: Wait>(
+    fn take_one_asking_each<L: Ledger, R: Wait>(
         &mut self,
         rt: &R,
         listener: &mut Listener,
@@ -212,7 +217,7 @@ impl HeldEnds {
                 Served::Nothing(now) => busy = now,
                 served => return served,
             }
-            match self.take_from_marked(rt, listener, busy, steps) {
+            match self.take_one_asking_marked(rt, listener, busy, steps) {
                 Served::Nothing(now) => busy = now,
                 served => return served,
             }
@@ -238,10 +243,10 @@ impl HeldEnds {
     {
         let next = self.next;
         let high = self.held.capacity();
-        match self.take_from_marked(rt, listener, false, steps) {
+        match self.take_one_asking_marked(rt, listener, false, steps) {
             Served::Nothing(marked) => {
-                match self.take_from_each(rt, listener, next, high, marked, steps) {
-                    Served::Nothing(ahead) => self.take_from_each(
+                match self.take_one_asking_each(rt, listener, next, high, marked, steps) {
+                    Served::Nothing(ahead) => self.take_one_asking_each(
                         rt, listener, 0, next, ahead, steps,
                     ),
                     served => served,

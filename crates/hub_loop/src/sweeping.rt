@@ -72,7 +72,7 @@ impl Model for Shutdown {
 }
 
 /// Takes the ports that an envelope names out of flight.
-fn take_named_ports<R: Wait>(
+fn take_named_ports_from_flight<R: Wait>(
     rt: &R,
     hub: &Hub,
     envelope: &Envelope,
@@ -144,7 +144,7 @@ fn take_ports_of_next_envelope<R: Wait>(
         *next = (place + 1, 0);
         return Ok(true);
     };
-    *found = take_named_ports(rt, hub, envelope)?;
+    *found = take_named_ports_from_flight(rt, hub, envelope)?;
     *next = (place, count + 1);
     Ok(true)
 }
@@ -165,7 +165,7 @@ fn take_ports_of_kept_delivery<R: Wait>(
 ) -> Result<(), OutOfMemory> {
     if let Some(delivery) = kept {
         if delivery.arrival.is_none() {
-            *found = take_named_ports(rt, hub, &delivery.envelope)?;
+            *found = take_named_ports_from_flight(rt, hub, &delivery.envelope)?;
         }
     }
     *kept = None;
@@ -214,7 +214,7 @@ impl Shutdown {
 
     /// Closes and sweeps the ports that were found, and looks for those of the next discarded
     /// envelope. Whether there was one.
-    fn close_found_and_find_next<R: Wait>(&mut self, rt: &R, hub: &Hub) -> Result<bool, OutOfMemory>
+    fn close_and_find_more_ports<R: Wait>(&mut self, rt: &R, hub: &Hub) -> Result<bool, OutOfMemory>
         ensures further { NamedBehind (closing_ends self.old) (closing_ends self.new)
             self.old.noticed self.new.noticed }
         ensures all { OnOk result (self.new.graves ≡ []) }
@@ -253,7 +253,7 @@ impl Shutdown {
         give_back_lines(rt, directory, &mut self.lines);
         take_ports_of_kept_delivery(rt, hub, kept, &mut self.found)?;
         for _ in rt.forever() {
-            if !self.close_found_and_find_next(rt, hub)? {
+            if !self.close_and_find_more_ports(rt, hub)? {
                 return Ok(());
             }
         }

@@ -57,7 +57,7 @@ fn lends<R: Wait>(rt: &R, shared: &Shared, mut event_loop: Loop, line: Poster) -
         rt,
         &shared.hub,
         &shared.directory,
-        &mut shared.roster.as_locked(),
+        &mut shared.roster.as_lock(),
     );
     let ended = ended.ok()?;
     let is_swept = is_left(&ended, &[(1, &[])], &[(1, 0)]);

@@ -15,7 +15,7 @@ fn ended<R: Wait>(rt: &R, shared: &Shared, event_loop: Loop) -> Option<Ended> {
         rt,
         &shared.hub,
         &shared.directory,
-        &mut shared.roster.as_locked(),
+        &mut shared.roster.as_lock(),
     ) {
         Ok(ended) => Some(ended),
         Err((_, event_loop)) => {
@@ -24,7 +24,7 @@ fn ended<R: Wait>(rt: &R, shared: &Shared, event_loop: Loop) -> Option<Ended> {
                     rt,
                     &shared.hub,
                     &shared.directory,
-                    &mut shared.roster.as_locked(),
+                    &mut shared.roster.as_lock(),
                 )
                 .ok()
         }

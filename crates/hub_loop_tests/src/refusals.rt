@@ -80,7 +80,7 @@ fn sweeps_port<R: Wait>(rt: &R, shared: &Shared, first: Loop, second: &mut Loop)
         rt,
         &shared.hub,
         &shared.directory,
-        &mut shared.roster.as_locked(),
+        &mut shared.roster.as_lock(),
     );
     let ended = ended.ok()?;
     let is_swept = is_left(
@@ -136,7 +136,7 @@ fn closes_queue<R: Wait>(
     let is_refused = !event_loop.fetch(rt, hub, directory, EndId(0)).ok()?;
     let is_gone = !event_loop.fetch(rt, hub, directory, EndId(0)).ok()?;
     let ended = event_loop
-        .end(rt, hub, directory, &mut shared.roster.as_locked())
+        .end(rt, hub, directory, &mut shared.roster.as_lock())
         .ok()?;
     let is_swept = is_left(&ended, &[(0, &[]), (0, &[])], &[]);
     drop(ended);

@@ -11,14 +11,14 @@ ghost use Rattle.hub_modes.specs.RunOutput.{
   delivered_text,
 };
 
-use hub_check::verdict_line;
+use hub_check::check_and_format_verdict;
 use hub_engine::{
     CountedReader, CountedWriter, Device, ExitStatus, InputError, read_input, write_and_flush,
     write_input_error, write_out_of_memory,
 };
 use hub_run::{Checkpoint, run_agents};
 use hub_script::Script;
-use hub_trace::{DeliveredLine, LOG_HEADER, LOGS_END, Log, OutOfMemory, deliveries};
+use hub_trace::{DeliveredLine, LOG_HEADER, LOGS_END, Log, OutOfMemory, delivered_lines};
 use std::alloc::Global;
 use std::fmt::Write as _;
 use std::io::{Read, Write};
@@ -59,7 +59,7 @@ fn run_script_text<C: Checkpoint + Sync, W: Write, T: Threads + Wait + Sync>(
 {
     match Script::read(alloc, input) {
         Ok(script) => run_script(alloc, rt, &script, checkpoint, writer),
-        Err((line, error)) => write_input_error(alloc, writer, line, error.kind()),
+        Err((line, error)) => write_input_error(alloc, writer, line, error.printed_kind()),
     }
 }
 
@@ -102,18 +102,18 @@ fn write_run<W: Write>(
 fn text_of_run(alloc: Global, logs: &[Log]) -> Result<(String, ExitStatus), OutOfMemory>
     ensures { IfOk result (λ run. IsRunText logs.now run.1 (string_bytes run.0)) }
 {
-    let lines = deliveries(alloc, logs)?;
-    let (verdict, status) = verdict_line(alloc, logs)?;
+    let lines = delivered_lines(alloc, logs)?;
+    let (verdict, status) = check_and_format_verdict(alloc, logs)?;
     let mut text = String::new(alloc);
     writeln!(text, "{LOG_HEADER}")?;
-    write_logs(&mut text, logs)?;
+    append_logs_as_text(&mut text, logs)?;
     writeln!(text, "{LOGS_END}")?;
     write_deliveries(&mut text, &lines)?;
     text.push_str(&verdict)?;
     Ok((text, status))
 }
 
-fn write_logs(text: &mut String, logs: &[Log]) -> Result<(), OutOfMemory>
+fn append_logs_as_text(text: &mut String, logs: &[Log]) -> Result<(), OutOfMemory>
     ensures { OnOk result (string_bytes text.new
         ≡ string_bytes text.old ++ flat_map log_text logs.now) }
 {

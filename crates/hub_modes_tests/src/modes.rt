@@ -89,7 +89,7 @@ fn each_write_and_each_flush_reaches_the_writer(rt: HostRuntime) -> Result<(), F
     let mut writer = CountedWriter::new(CountingWriter::new());
     for size in [1usize, 1_000, 1_048_576] {
         let bytes = vec![in rt.alloc(); b'a'; size]?;
-        assert_eq!(rt; writer.write(&bytes), Ok(size));
+        assert_eq!(rt; writer.write_once(&bytes), Ok(size));
     }
     for _ in 0..2 {
         assert_eq!(rt; writer.flush(), Ok(()));

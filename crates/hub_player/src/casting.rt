@@ -61,7 +61,7 @@ impl Player {
                 return Err(Stop::OutOfMemory);
             }
         }
-        Ok(Shown::Cast(Items::of_list(posts)))
+        Ok(Shown::Cast(Items::from_vec(posts)))
     }
 
     pub(crate) fn part<R: Wait>(&mut self, rt: &R, end: EndId) -> Result<Shown, Stop> {

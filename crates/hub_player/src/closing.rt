@@ -33,7 +33,7 @@ impl Player {
         let Some(event_loop) = loop_of(&mut self.agents, agent) else {
             return Err(Stop::Unexpected);
         };
-        let Some(closed) = event_loop.close(rt, &self.hub, &mut self.roster.as_locked(), end) else {
+        let Some(closed) = event_loop.close(rt, &self.hub, &mut self.roster.as_lock(), end) else {
             return Err(Stop::Unexpected);
         };
         let ClosedEnd { grave, port } = closed;

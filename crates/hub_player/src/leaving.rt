@@ -42,10 +42,10 @@ impl Player {
 
     /// What a loop leaves. Where there was no memory the next call goes on.
     fn ended<R: Wait>(&self, rt: &R, event_loop: Loop) -> Result<Ended, Stop> {
-        match event_loop.end(rt, &self.hub, &self.directory, &mut self.roster.as_locked()) {
+        match event_loop.end(rt, &self.hub, &self.directory, &mut self.roster.as_lock()) {
             Ok(ended) => Ok(ended),
             Err((_, event_loop)) => {
-                match event_loop.end(rt, &self.hub, &self.directory, &mut self.roster.as_locked()) {
+                match event_loop.end(rt, &self.hub, &self.directory, &mut self.roster.as_lock()) {
                     Ok(ended) => Ok(ended),
                     Err(_) => Err(Stop::OutOfMemory),
                 }
@@ -107,7 +107,7 @@ impl Player {
             return Err(Stop::Unexpected);
         };
         seat.place = Place::Swept;
-        let shown = Shown::Answer(Outcome::Discarded(Items::of_list(swept.into_envelopes())));
+        let shown = Shown::Answer(Outcome::Discarded(Items::from_vec(swept.into_envelopes())));
         told.tell_made("sweep", end.0, None, &shown)
     }
 }

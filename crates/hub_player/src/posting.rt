@@ -9,7 +9,7 @@ use crate::seat::{Kind, Place};
 use hub_core::{Acceptance, Outcome};
 use hub_envelope::{AgentId, Body, EndId, Items, LineId, MAX_PORTS};
 use hub_loop::{Held, Way};
-use hub_ports::{Closings, Parcel, Port, SendRefusal, send_parcel};
+use hub_ports::{Closings, Parcel, Port, SendRefusal, send_parcel_over_line};
 use hub_queue::Posted;
 use hub_steps::Shown;
 use hub_test_parts::release_port;
@@ -181,7 +181,7 @@ impl Player {
     {
         let lent = self.lent.get_mut(place)?;
         if let Some(poster) = &mut lent.poster {
-            return Some(send_parcel(poster, rt, &self.hub, agent, parcel, closings));
+            return Some(send_parcel_over_line(poster, rt, &self.hub, agent, parcel, closings));
         }
         let way = Way::Line(lent.end);
         loop_of(&mut self.agents, agent)?.post(rt, &self.hub, agent, way, parcel, closings)

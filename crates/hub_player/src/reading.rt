@@ -134,7 +134,12 @@ fn end_at<W: Write>(
     writer: &mut CountedWriter<W>,
 ) -> Ended {
     match stop {
-        Stop::Bad(error) => Ended::of(write_input_error(alloc, writer, number, error.name())),
+        Stop::Bad(error) => Ended::of(write_input_error(
+            alloc,
+            writer,
+            number,
+            error.printed_kind(),
+        )),
         Stop::OutOfMemory => Ended::of(write_out_of_memory(writer)),
         _ => {
             let reason = stop.reason();

@@ -36,7 +36,7 @@ impl Player {
                 self.close_arrived(rt, arrived)?;
             }
         }
-        answer(Outcome::Discarded(Items::of_list(envelopes)))
+        answer(Outcome::Discarded(Items::from_vec(envelopes)))
     }
 }
 

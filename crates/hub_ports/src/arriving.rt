@@ -6,7 +6,7 @@ ghost use Rattle.hub_ports.specs.Arriving.{HasArrived, left_in_flight};
 ghost use Rattle.hub_ports.specs.Seats.{ends_of};
 ghost use Rattle.hub_ports.specs.Splitting.{IsSplit};
 
-use crate::closing::{Noticed, Spent, close_port};
+use crate::closing::{Noticed, Spent, put_notice_and_close_port};
 use crate::flight::flight_key;
 use crate::hub::Hub;
 use crate::port::Port;
@@ -80,7 +80,7 @@ impl Arrived {
         ensures grave { IsClosed self.taker result.0 }
         ensures notice { IsNoticed self.poster result.1 result.2 }
     {
-        close_port(rt, hub.alloc, &hub.yard, self.into_port())
+        put_notice_and_close_port(rt, hub.alloc, &hub.yard, self.into_port())
     }
 
     /// The port, which is not adopted: what is posted there wakes nobody. It is for whoever closes

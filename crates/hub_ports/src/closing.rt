@@ -132,7 +132,7 @@ impl Model for Closings {
 }
 
 /// No port: it holds the place of one.
-fn placeholder_port() -> ClosedPort {
+fn placeholder_closed_port() -> ClosedPort {
     ClosedPort {
         end: EndId(0),
         queue: None,
@@ -150,7 +150,7 @@ impl Closings {
         ensures { result ≡ [] }
     {
         Closings {
-            ports: array::from_fn(|_| placeholder_port()),
+            ports: array::from_fn(|_| placeholder_closed_port()),
             count: 0,
         }
     }
@@ -222,7 +222,7 @@ fn close_taker_and_tell_hearer<H: Hears<ClosingStep>, R: Wait>(
 
 /// Closes a port: the notice first, while its own end is open, and then that end. Whoever is told
 /// hears each step where it is done, so a contract sees their order.
-pub fn close_and_tell_hearer<H: Hears<ClosingStep>, R: Wait>(
+pub fn close_port_telling_each_step<H: Hears<ClosingStep>, R: Wait>(
     rt: &R,
     alloc: Global,
     yard: &Depot<Onward>,
@@ -241,7 +241,7 @@ pub fn close_and_tell_hearer<H: Hears<ClosingStep>, R: Wait>(
 }
 
 /// Closes a port: the notice first, and then the port's own end.
-pub(crate) fn close_port<R: Wait>(
+pub(crate) fn put_notice_and_close_port<R: Wait>(
     rt: &R,
     alloc: Global,
     yard: &Depot<Onward>,
@@ -250,7 +250,7 @@ pub(crate) fn close_port<R: Wait>(
     ensures grave { IsClosed port.taker result.0 }
     ensures notice { IsNoticed port.poster result.1 result.2 }
 {
-    close_and_tell_hearer(rt, alloc, yard, port, &mut Unheard)
+    close_port_telling_each_step(rt, alloc, yard, port, &mut Unheard)
 }
 
 /// Closes the ports of a list in order, and keeps of each what shows it.
@@ -266,7 +266,7 @@ pub(crate) fn close_all<R: Wait>(
     let mut closings = Closings::none();
     for port in ports {
         let end = port.id();
-        let (grave, spent, noticed) = close_port(rt, alloc, yard, port);
+        let (grave, spent, noticed) = put_notice_and_close_port(rt, alloc, yard, port);
         let mut closed = ClosedPort::new(end, spent, noticed);
         closed.queue = Some(grave.into_queue_witness());
         closings.push(closed);

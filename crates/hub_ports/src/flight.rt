@@ -10,7 +10,7 @@ ghost use Rattle.hub_ports.specs.Splitting.{IsSplit};
 ghost use Rattle.std.specs.FinMap as map;
 ghost use Rattle.hub_ports.specs.Closing.{AreToldEmptied};
 
-use crate::closing::{Noticed, Spent, close_port};
+use crate::closing::{Noticed, Spent, put_notice_and_close_port};
 use crate::error::SendRefusal;
 use crate::port::Port;
 use hub_depot::{Depot, DepotError, Kept, Key, put_into_lent_map, take_from_lent_map};
@@ -33,7 +33,7 @@ pub(crate) fn flight_key(end: EndId) -> Key
 
 /// Puts the ports of a list in flight, from the last to the first, so that what is still in hand is
 /// always a beginning of the list. After an error the port that was refused is the last in hand.
-pub(crate) fn put_in_flight<L: Lends<Kept<Port>>, R: Wait>(
+pub(crate) fn put_ports_in_flight<L: Lends<Kept<Port>>, R: Wait>(
     rt: &R,
     flight: &mut L,
     ports: &mut Vec<Port>,
@@ -65,7 +65,7 @@ pub(crate) fn put_in_flight<L: Lends<Kept<Port>>, R: Wait>(
 
 /// Takes the ports of a list back from flight, in order. Those that it begins with are in hand
 /// still.
-pub(crate) fn take_back_from_flight<L: Lends<Kept<Port>>, R: Wait>(
+pub(crate) fn take_ports_back_from_flight<L: Lends<Kept<Port>>, R: Wait>(
     rt: &R,
     flight: &mut L,
     numbers: &[EndId],
@@ -98,7 +98,7 @@ pub(crate) fn take_back_from_flight<L: Lends<Kept<Port>>, R: Wait>(
 /// they are in flight. It tells of each end what is left of it.
 ///
 /// Where memory runs out, the end that was closed last comes back.
-pub fn close_all_ports_in_flight<H: Hears<(Swept, Option<(Spent, Noticed)>)>, R: Wait>(
+pub fn close_and_sweep_flight_ports<H: Hears<(Swept, Option<(Spent, Noticed)>)>, R: Wait>(
     rt: &R,
     alloc: Global,
     yard: &Depot<Onward>,
@@ -115,7 +115,7 @@ pub fn close_all_ports_in_flight<H: Hears<(Swept, Option<(Spent, Noticed)>)>, R:
         None => {}
     }
     while let Some(port) = flight.take_any() {
-        let (grave, spent, noticed) = close_port(rt, alloc, yard, port);
+        let (grave, spent, noticed) = put_notice_and_close_port(rt, alloc, yard, port);
         heard.tell(rt, (grave.sweep_until_empty(rt)?, Some((spent, noticed))));
     }
     Ok(())

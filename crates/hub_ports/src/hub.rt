@@ -7,7 +7,7 @@ ghost use Rattle.hub_ports.specs.Channels.{IsChannel};
 
 use crate::arriving::{Arrival, take_ports_from_flight};
 use crate::error::ChannelError;
-use crate::flight::close_all_ports_in_flight;
+use crate::flight::close_and_sweep_flight_ports;
 use crate::port::Port;
 use hub_depot::Depot;
 use hub_envelope::{EndId, Envelope, OutOfMemory};
@@ -62,7 +62,7 @@ impl Hub {
         ensures { IfOk result (λ arrival.
             IsSplit envelope.now.ports (ends_of arrival.found.items) arrival.missing.items) }
     {
-        let mut flight = self.flight.as_locked();
+        let mut flight = self.flight.as_lock();
         take_ports_from_flight(rt, &mut flight, self.alloc, envelope.ports.as_slice())
     }
 
@@ -80,7 +80,7 @@ impl Hub {
         } = self;
         let mut kept = flight.into_kept();
         let grave = grave.into_inner();
-        let ended = close_all_ports_in_flight(rt, alloc, &yard, grave, &mut kept, &mut Unheard);
+        let ended = close_and_sweep_flight_ports(rt, alloc, &yard, grave, &mut kept, &mut Unheard);
         let Err(grave) = ended else {
             return Ok(());
         };

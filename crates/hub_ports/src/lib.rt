@@ -19,10 +19,12 @@ mod port;
 mod sending;
 
 pub use arriving::{Arrival, Arrived, take_ports_from_flight};
-pub use closing::{ClosedPort, ClosingStep, Closings, Noticed, Spent, close_and_tell_hearer};
+pub use closing::{
+    ClosedPort, ClosingStep, Closings, Noticed, Spent, close_port_telling_each_step,
+};
 pub use error::{ChannelError, PortError, SendRefusal};
-pub use flight::close_all_ports_in_flight;
+pub use flight::close_and_sweep_flight_ports;
 pub use hub::{Hub, channel};
 pub use parcel::Parcel;
 pub use port::Port;
-pub use sending::{send, send_parcel, send_with_ports};
+pub use sending::{send, send_parcel_over_line, send_with_ports};

@@ -1,9 +1,9 @@
-use crate::closing::{Closings, Noticed, Spent, close_port};
+use crate::closing::{Closings, Noticed, Spent, put_notice_and_close_port};
 use crate::error::{PortError, SendRefusal};
 use crate::flight::flight_key;
 use crate::hub::Hub;
 use crate::parcel::Parcel;
-use crate::sending::{send, send_parcel};
+use crate::sending::{send, send_parcel_over_line};
 use hub_depot::{Key, Named};
 use hub_envelope::{AgentId, Body, EndId};
 use hub_queue::{Grave, Posted, Poster, Steps, Taker, Took};
@@ -159,7 +159,7 @@ impl Port {
             × Contains (ends_of parcel.old.ports.items) self.old.poster.name.end) }
         ensures taker { self.new.taker ≡ self.old.taker }
     {
-        send_parcel(&mut self.poster, rt, hub, agent, parcel, closings)
+        send_parcel_over_line(&mut self.poster, rt, hub, agent, parcel, closings)
     }
 
     /// Closes the port (WHATWG HTML, "Message ports": `close()`, which disentangles it). First it
@@ -169,6 +169,6 @@ impl Port {
         ensures grave { IsClosed self.taker result.0 }
         ensures notice { IsNoticed self.poster result.1 result.2 }
     {
-        close_port(rt, hub.alloc, &hub.yard, self)
+        put_notice_and_close_port(rt, hub.alloc, &hub.yard, self)
     }
 }

@@ -11,7 +11,7 @@ ghost use Rattle.hub_ports.specs.declared.closing.ClosedPort.{ClosedPort};
 
 use crate::closing::{Closings, close_all};
 use crate::error::{PortError, SendRefusal};
-use crate::flight::{put_in_flight, take_back_from_flight};
+use crate::flight::{put_ports_in_flight, take_ports_back_from_flight};
 use crate::hub::Hub;
 use crate::parcel::Parcel;
 use crate::port::Port;
@@ -42,7 +42,7 @@ fn numbers_of(alloc: Global, ports: &[Port]) -> Result<Vec<EndId>, OutOfMemory>
 }
 
 /// The refusal that is told, once the ports were called back.
-fn refusal_or_strayed(refusal: SendRefusal, missing: &[EndId]) -> SendRefusal
+fn refusal_unless_ports_missing(refusal: SendRefusal, missing: &[EndId]) -> SendRefusal
     ensures whole { missing.now ≡ [] → result ≡ refusal }
     ensures strayed { 0 < length missing.now → result ≡ SendRefusal.Strayed }
 {
@@ -76,7 +76,7 @@ fn send_without_ports<R: Wait>(
         notice: false,
     };
     let mut none = Some(Ports::none(hub.alloc));
-    match line.post_lent(rt, &hub.yard, head, &mut parcel.body, &mut none) {
+    match line.post_lent_body_and_ports(rt, &hub.yard, head, &mut parcel.body, &mut none) {
         Ok(posted) => Ok(posted),
         Err(error) => Err(SendRefusal::from_post_error(error)),
     }
@@ -84,7 +84,7 @@ fn send_without_ports<R: Wait>(
 
 /// Posts a parcel with at most so many ports as an envelope may have, over a flight that anybody
 /// lends. What giving them back wants is reserved before the first is in flight.
-fn post_with_ports<L: Lends<Kept<Port>>, R: Wait>(
+fn put_in_flight_and_post<L: Lends<Kept<Port>>, R: Wait>(
     rt: &R,
     hub: &Hub,
     flight: &mut L,
@@ -115,11 +115,11 @@ fn post_with_ports<L: Lends<Kept<Port>>, R: Wait>(
         return Err(SendRefusal::OutOfMemory);
     };
     *missing = room;
-    if let Err(refusal) = put_in_flight(rt, flight, ports) {
-        take_back_from_flight(rt, flight, numbers.as_slice(), ports, missing);
-        return Err(refusal_or_strayed(refusal, missing.as_slice()));
+    if let Err(refusal) = put_ports_in_flight(rt, flight, ports) {
+        take_ports_back_from_flight(rt, flight, numbers.as_slice(), ports, missing);
+        return Err(refusal_unless_ports_missing(refusal, missing.as_slice()));
     }
-    let Ok(listed) = Ports::of_list(numbers) else {
+    let Ok(listed) = Ports::try_from_vec(numbers) else {
         unreachable!();
     };
     let head = Head {
@@ -127,19 +127,22 @@ fn post_with_ports<L: Lends<Kept<Port>>, R: Wait>(
         notice: false,
     };
     let mut listed = Some(listed);
-    match line.post_lent(rt, &hub.yard, head, body, &mut listed) {
+    match line.post_lent_body_and_ports(rt, &hub.yard, head, body, &mut listed) {
         Ok(posted) => Ok(posted),
         Err(error) => {
             let listed = listed.unwrap();
-            take_back_from_flight(rt, flight, listed.as_slice(), ports, missing);
-            Err(refusal_or_strayed(SendRefusal::from_post_error(error), missing.as_slice()))
+            take_ports_back_from_flight(rt, flight, listed.as_slice(), ports, missing);
+            Err(refusal_unless_ports_missing(
+                SendRefusal::from_post_error(error),
+                missing.as_slice(),
+            ))
         }
     }
 }
 
 /// Posts a parcel with ports, over a flight that anybody lends: of the hub it uses the yard and the
-/// allocator alone. The refusals are those of `send_parcel`.
-// It is no part of `send_parcel`, so that a post without ports doesn't pay for the room that a list
+/// allocator alone. The refusals are those of `send_parcel_over_line`.
+// It is no part of `send_parcel_over_line`, so that a post without ports doesn't pay for the room that a list
 // takes on the stack.
 #[inline(never)]
 pub fn send_with_ports<L: Lends<Kept<Port>>, R: Wait>(
@@ -172,14 +175,14 @@ pub fn send_with_ports<L: Lends<Kept<Port>>, R: Wait>(
         *closings = close_all(rt, hub.alloc, &hub.yard, ports);
         return Err(SendRefusal::Doomed);
     }
-    post_with_ports(rt, hub, flight, line, agent, parcel)
+    put_in_flight_and_post(rt, hub, flight, line, agent, parcel)
 }
 
 /// Posts a parcel over a line: `Port::post_parcel`, over a line of a queue (Service Workers,
 /// "client message queue") in place of a port's own. Where the line's end is no port, `Doomed`
 /// never comes.
 #[inline(always)]
-pub fn send_parcel<R: Wait>(
+pub fn send_parcel_over_line<R: Wait>(
     line: &mut Poster,
     rt: &R,
     hub: &Hub,
@@ -200,7 +203,7 @@ pub fn send_parcel<R: Wait>(
     if parcel.ports.is_empty() {
         return send_without_ports(line, rt, hub, agent, parcel);
     }
-    let mut flight = hub.flight.as_locked();
+    let mut flight = hub.flight.as_lock();
     send_with_ports(rt, hub, &mut flight, line, agent, parcel, closings)
 }
 
@@ -220,7 +223,7 @@ fn send_with_own_closings<R: Wait>(
         × Contains (ends_of parcel.ports.items) line.old.name.end) }
 {
     let mut closings = Closings::none();
-    match send_parcel(line, rt, hub, agent, &mut parcel, &mut closings) {
+    match send_parcel_over_line(line, rt, hub, agent, &mut parcel, &mut closings) {
         Ok(posted) => Ok(posted),
         Err(refusal) => Err(refusal.into_error(parcel, closings)),
     }
@@ -229,7 +232,10 @@ fn send_with_own_closings<R: Wait>(
 /// The answer to a parcel without ports that its line refused.
 #[cold]
 #[inline(never)]
-fn error_without_closings(refusal: SendRefusal, parcel: Parcel) -> Result<Posted, PortError>
+fn error_of_refused_portless_parcel(
+    refusal: SendRefusal,
+    parcel: Parcel,
+) -> Result<Posted, PortError>
     requires { IsSome parcel.body }
     ensures { result ≡ Err (error_with refusal parcel []) }
 {
@@ -261,6 +267,6 @@ pub fn send<R: Wait>(
     }
     match send_without_ports(line, rt, hub, agent, &mut parcel) {
         Ok(posted) => Ok(posted),
-        Err(refusal) => error_without_closings(refusal, parcel),
+        Err(refusal) => error_of_refused_portless_parcel(refusal, parcel),
     }
 }

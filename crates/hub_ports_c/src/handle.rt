@@ -40,7 +40,7 @@ impl Handle {
         ensures { result.slot.held ≡ Some resource.value }
     {
         Handle {
-            slot: Slot::of(RawBox::of(resource)),
+            slot: Slot::of(RawBox::from_box(resource)),
             is_open: true,
         }
     }

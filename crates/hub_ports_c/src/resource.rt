@@ -34,7 +34,7 @@ pub enum Resource {
 
 /// What comes of a look that an armed port or fan was given: its old token, and whether something
 /// waits.
-pub(crate) fn status_of_armed(armed: Armed, old: &mut u64) -> u8
+pub(crate) fn store_token_and_give_status(armed: Armed, old: &mut u64) -> u8
     ensures waits { result ≡ 0 → armed.waits ≡ true }
     ensures none { result ≡ 1 → armed.waits ≡ false }
     ensures token { old.new ≡ armed.token }
@@ -127,7 +127,7 @@ impl Resource {
         let Resource::Port(port) = self else {
             return WRONG_STATE;
         };
-        status_of_armed(port.arm(token), old)
+        store_token_and_give_status(port.arm(token), old)
     }
 
     /// Makes a port that of another owner, disabled, and looks into it then.
@@ -142,7 +142,7 @@ impl Resource {
         let Resource::Port(port) = self else {
             return WRONG_STATE;
         };
-        status_of_armed(port.adopt(token), old)
+        store_token_and_give_status(port.adopt(token), old)
     }
 
     /// The name of a port's channel.
@@ -154,7 +154,7 @@ impl Resource {
         let Resource::Port(port) = self else {
             return WRONG_STATE;
         };
-        *name = port.name();
+        *name = port.channel_name();
         DONE
     }
 

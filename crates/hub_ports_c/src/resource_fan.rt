@@ -1,7 +1,7 @@
 //! What is done with the fan or the poster that a handle holds.
 ghost use Rattle.std.specs.Prelude.{◌≡◌, ◌⊎◌, false};
 
-use crate::resource::{Message, Resource, status_of_armed};
+use crate::resource::{Message, Resource, store_token_and_give_status};
 use crate::status::{CLOSED, DISABLED, DONE, EMPTY, ENDED, FULL, NO_MEMORY, WRONG_STATE};
 use hub_fan::{ClosedFan, FanDrained, FanTaken, NotOpened, NotPosted};
 use std::mem;
@@ -140,7 +140,7 @@ impl Resource {
         let Resource::Fan(fan) = self else {
             return WRONG_STATE;
         };
-        status_of_armed(fan.arm(token), old)
+        store_token_and_give_status(fan.arm(token), old)
     }
 
     /// Closes a fan, which leaves its grave.

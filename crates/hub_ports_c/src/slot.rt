@@ -21,7 +21,7 @@ impl<T, A: Allocator> Model for RawBox<T, A> {
 
 impl<T, A: Allocator> RawBox<T, A> {
     /// The box, taken apart. It moves nothing and takes no memory.
-    pub fn of(b: Box<T, A>) -> RawBox<T, A>
+    pub fn from_box(b: Box<T, A>) -> RawBox<T, A>
     where
         T: Drop,
         ensures { result.value ≡ b.value }

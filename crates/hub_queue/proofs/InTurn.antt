@@ -3,7 +3,7 @@ use Rattle.std.proofs.Common.{◌≡◌, ◌⊎◌, List, [], ◌∷◌, ◌++�
 use Rattle.std.proofs.lemmas.List.Elements.{filter-append}
 use Rattle.hub_envelope.specs.declared.envelope.Envelope.{Envelope}
 use Rattle.hub_core.specs.Sender.{by, Prefix}
-use Rattle.hub_core.proofs.Queueing.{queue_laws}
+use Rattle.hub_core.proofs.Queueing.{prove_queue_laws}
 use Rattle.hub_queue.specs.declared.store.PassView.TheVariants.{Takes, Puts}
 use Rattle.hub_queue.specs.declared.taker.Took.{Took}
 use Rattle.hub_queue.specs.declared.taker.Took.TheVariants.{Got, Empty, Busy, Again, Disabled, Closed}
@@ -19,7 +19,7 @@ pub taken_prefix : TakenIsPrefix ShowsQueue
 taken_prefix items views shows taker pass t v takes puts =
     let mine = shows.knows taker (Takes t) takes in
     let theirs = shows.knows pass (Puts v) puts in
-    let is = queue_laws.prefix shows.shared.end shows.shared.epoch shows.shared.lines shows.shared.state shows.is_queue v.line in
+    let is = prove_queue_laws.prefix shows.shared.end shows.shared.epoch shows.shared.lines shows.shared.state shows.is_queue v.line in
     (is.0, theirs.put ∙ is.1 ∙ ap (λ (l : List Envelope). by v.line l ++ is.0) (sym mine.got))
 
 -- nothing was taken of the queues behind the first

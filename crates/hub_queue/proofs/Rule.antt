@@ -10,7 +10,7 @@ use Rattle.crossbeam_queue.proofs.Lists.{at_set}
 use Rattle.hub_envelope.specs.declared.envelope.Envelope.{Envelope}
 use Rattle.hub_core.specs.Sender.{by}
 use Rattle.hub_core.specs.QueueMachine.{Queue, new_queue, IsNamed, MayPush, pushed, pop_of, IsQueue}
-use Rattle.hub_core.proofs.Queueing.{at_first_queue, after_push, after_pop, queue_laws}
+use Rattle.hub_core.proofs.Queueing.{at_first_queue, after_push, after_pop, prove_queue_laws}
 use Rattle.hub_core.proofs.Items.{some_is, none_got}
 use Rattle.hub_envelope.specs.declared.limits.TheConstants.{MAX_PUT}
 use Rattle.hub_queue.specs.declared.store.PutView.{PutView}
@@ -305,7 +305,7 @@ module _ (end epoch id : ℕ) (t : TakeView) (name : (t.lines ≡ 0) ⊎ ((t.end
     stands = ap (λ (b : Bool). cond b (Some (length cut_left)) (cut_q.pass_of t.lines)) (eq-eqb t.lines cut_q.lines lines);
     end = refl;
     epoch = refl;
-    put = sym (queue_laws.unused cut_q.end cut_q.epoch cut_q.lines cut_q.state h.is_queue t.lines (omega arith));
+    put = sym (prove_queue_laws.unused cut_q.end cut_q.epoch cut_q.lines cut_q.state h.is_queue t.lines (omega arith));
   }
 
   cut_now : ShowsQueue items (cut_left ++ Puts (next_put end epoch t) ∷ [])

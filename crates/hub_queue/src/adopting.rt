@@ -10,7 +10,7 @@ ghost use Rattle.hub_queue.specs.Opening.{IsOpenTakerQueue};
 use crate::error::AdoptError;
 use crate::left::LeftGates;
 use crate::line_right::LineRight;
-use crate::mailbox::open_taker_queue;
+use crate::mailbox::make_taker_queue_with_entries;
 use crate::onward::Onward;
 use crate::stand::Stand;
 use crate::taker_queue::TakerQueue;
@@ -23,7 +23,7 @@ use std::alloc::Global;
 use std::sync::Wait;
 
 /// An onward poster for each entry of a new queue, in order.
-pub(crate) fn make_onward_posters(
+pub(crate) fn make_onward_for_each_entry(
     alloc: Global,
     queue: &TakerQueue,
     mut entries: Vec<Entry<LineRight>>,
@@ -62,7 +62,7 @@ pub(crate) fn make_onward_posters(
 
 /// A new queue of the end, whose onward posters lie in the yard. After an error nothing is left of
 /// it, and the yard keeps what it kept.
-pub(crate) fn open_next_queue<L: Lends<Kept<Onward>>, R: Wait>(
+pub(crate) fn open_queue_and_lay_onwards<L: Lends<Kept<Onward>>, R: Wait>(
     rt: &R,
     yard: &mut L,
     alloc: Global,
@@ -84,10 +84,10 @@ pub(crate) fn open_next_queue<L: Lends<Kept<Onward>>, R: Wait>(
         → IfSome (L.shown yard.old) (KeepsName end epoch lines) }
     ensures kept { OnErr result (L.shown yard.new ≡ L.shown yard.old) }
 {
-    let Ok((queue, entries)) = open_taker_queue(alloc, end, epoch, lines) else {
+    let Ok((queue, entries)) = make_taker_queue_with_entries(alloc, end, epoch, lines) else {
         return Err(AdoptError::OutOfMemory);
     };
-    let Ok(onwards) = make_onward_posters(alloc, &queue, entries, end, epoch, bell) else {
+    let Ok(onwards) = make_onward_for_each_entry(alloc, &queue, entries, end, epoch, bell) else {
         return Err(AdoptError::OutOfMemory);
     };
     match put_all_or_none(rt, yard, alloc, onwards) {

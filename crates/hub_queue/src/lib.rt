@@ -36,7 +36,7 @@ pub use meeting::{Meeting, meet};
 pub use onward::Onward;
 pub use pause::{NoPause, Pause, Point, Steps};
 pub use poster::Poster;
-pub use queue_rule::queue_chain_laws;
+pub use queue_rule::prove_queue_chain_laws;
 pub use stand::Stand;
 pub use swept::Swept;
 pub use taker::{Taker, Took};

@@ -64,7 +64,7 @@ pub struct Head {
 /// Counts a push that the queue has refused. Nothing else counts one. It isn't inlined, so that a
 /// push that is accepted doesn't pay for it.
 #[inline(never)]
-fn count_refusal(store: &Store, pass: &mut Pass)
+fn count_refused_push(store: &Store, pass: &mut Pass)
     requires queue { IsSegPassOf store.now.queue pass.old }
     requires line { known_by pass.old ≡ Puts (put_view (known_by pass.old)) }
     requires refused { IsRefused pass.old.me.view }
@@ -125,7 +125,7 @@ impl LineRight {
                 })
             }
             Err(envelope) => {
-                count_refusal(&self.store, &mut self.pass);
+                count_refused_push(&self.store, &mut self.pass);
                 *body = Some(envelope.body);
                 *ports = Some(envelope.ports);
                 Err(PostError::OutOfMemory)

@@ -11,7 +11,7 @@ ghost use Rattle.hub_queue.specs.PassSteps.{cut_more, next_put};
 ghost use Rattle.hub_queue.specs.Seats.{known_by, take_in};
 ghost use Rattle.hub_queue.specs.SharedQueue.{first_view};
 
-use crate::adopting::make_onward_posters;
+use crate::adopting::make_onward_for_each_entry;
 use crate::line_right::LineRight;
 use crate::onward::Onward;
 use crate::poster::Poster;
@@ -101,8 +101,8 @@ impl Mailbox {
         requires { (0 < lines) × (lines ≤ MAX_LINES) }
         ensures { IfOk result (λ m. IsOpenMailbox end lines m.0 m.1.items) }
     {
-        let (newest, entries) = open_taker_queue(alloc, end, 0, lines)?;
-        let onwards = make_onward_posters(alloc, &newest, entries, end, 0, &bell)?;
+        let (newest, entries) = make_taker_queue_with_entries(alloc, end, 0, lines)?;
+        let onwards = make_onward_for_each_entry(alloc, &newest, entries, end, 0, &bell)?;
         let posters = posters_from_onwards(alloc, onwards)?;
         let taker = Taker {
             alloc,
@@ -118,7 +118,12 @@ impl Mailbox {
 }
 
 /// Cuts the pass of the next line off the taker's. The first cut gives the queue its end and epoch.
-fn split_off_line_pass<N: QueueName>(store: &Store, pass: &mut Pass, end: EndId, epoch: u32) -> Pass
+fn split_line_pass_off_taker_pass<N: QueueName>(
+    store: &Store,
+    pass: &mut Pass,
+    end: EndId,
+    epoch: u32,
+) -> Pass
     requires name { (end.0 ≡ N.end) × (epoch ≡ N.epoch) }
     requires queue { IsSegPassOf store.now.queue pass.old }
     requires taker { known_by pass.old ≡ Takes (take_in (known_by pass.old)) }
@@ -131,7 +136,7 @@ fn split_off_line_pass<N: QueueName>(store: &Store, pass: &mut Pass, end: EndId,
 }
 
 /// The rights of so many lines, each of which has put nothing.
-fn make_line_rights(
+fn make_posting_right_per_line(
     alloc: Global,
     store: &Arc<Store>,
     pass: &mut Pass,
@@ -149,7 +154,7 @@ fn make_line_rights(
     let mut rights = Vec::with_capacity(alloc, lines as usize)?;
     for _line in 0..lines {
         let share = Arc::try_clone(store)?;
-        let own = split_off_line_pass::<Brand>(store, pass, end, epoch);
+        let own = split_line_pass_off_taker_pass::<Brand>(store, pass, end, epoch);
         rights.push(LineRight {
             store: share,
             pass: own,
@@ -161,7 +166,7 @@ fn make_line_rights(
 
 /// A new queue with its gate: nothing was put, nobody is inside and no flag is set. The entries are
 /// those of its lines, in order.
-pub(crate) fn open_taker_queue(
+pub(crate) fn make_taker_queue_with_entries(
     alloc: Global,
     end: EndId,
     epoch: u32,
@@ -172,7 +177,7 @@ pub(crate) fn open_taker_queue(
 {
     let (queue, mut pass) = EnvelopeQueue::with_rule(alloc)?;
     let store = Arc::new(alloc, Store { queue })?;
-    let rights = make_line_rights(alloc, &store, &mut pass, end, epoch, lines)?;
+    let rights = make_posting_right_per_line(alloc, &store, &mut pass, end, epoch, lines)?;
     let Ok((keeper, entries)) = Gate::open(alloc, rights) else {
         return Err(OutOfMemory);
     };

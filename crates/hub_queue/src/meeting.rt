@@ -29,7 +29,7 @@ pub enum Meeting {
 
 /// Lends the pass of a line to the taker's for one look at the queue: what was taken of the line is
 /// a prefix of what it has put. It says how many were put and taken. Both passes are as they were.
-fn count_put_and_taken<R: Wait>(
+fn put_and_taken_of_line<R: Wait>(
     rt: &R,
     queue: &mut TakerQueue,
     right: &mut LineRight,
@@ -51,7 +51,11 @@ fn count_put_and_taken<R: Wait>(
 }
 
 /// Goes in at the gate, compares, and comes out again.
-fn enter_and_compare<R: Wait>(rt: &R, stand: &mut Stand, queue: &mut TakerQueue) -> Meeting
+fn enter_and_compare_line_counts<R: Wait>(
+    rt: &R,
+    stand: &mut Stand,
+    queue: &mut TakerQueue,
+) -> Meeting
     requires { (right_of stand.old).queue ≡ queue.old.queue }
     ensures same { queue.new ≡ queue.old }
     ensures met { HaveMetAt stand.old stand.new queue.old result }
@@ -59,7 +63,7 @@ fn enter_and_compare<R: Wait>(rt: &R, stand: &mut Stand, queue: &mut TakerQueue)
     let line = stand.name.line;
     match stand.entry.take().unwrap().enter() {
         Entered::In(mut inside) => {
-            let (put, got) = count_put_and_taken(rt, queue, inside.right_mut(), line);
+            let (put, got) = put_and_taken_of_line(rt, queue, inside.right_mut(), line);
             let (entry, _) = inside.leave();
             stand.entry = Some(entry);
             Meeting::Met { put, got }
@@ -85,7 +89,7 @@ pub fn meet<R: Wait>(rt: &R, poster: &mut Poster, taker: &mut Taker) -> Meeting
         return Meeting::Strangers;
     }
     match taker.retired.front_mut() {
-        Some(queue) => enter_and_compare(rt, stand, queue),
-        None => enter_and_compare(rt, stand, &mut taker.newest),
+        Some(queue) => enter_and_compare_line_counts(rt, stand, queue),
+        None => enter_and_compare_line_counts(rt, stand, &mut taker.newest),
     }
 }

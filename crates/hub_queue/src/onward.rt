@@ -44,7 +44,7 @@ impl Named for Onward {
 }
 
 /// Takes from the yard the stand of the line at the next queue of its end.
-pub(crate) fn take_next_stand<L: Lends<Kept<Onward>>, R: Wait>(
+pub(crate) fn take_next_stand_from_yard<L: Lends<Kept<Onward>>, R: Wait>(
     rt: &R,
     yard: &mut L,
     name: Key,

@@ -69,7 +69,7 @@ impl Poster {
         ensures posted { IsPosted self.old self.new draft result }
         ensures rung { HasRung self.old self.new result }
     {
-        let (mut lender, mut heard) = (yard.as_locked(), Paused(pause));
+        let (mut lender, mut heard) = (yard.as_lock(), Paused(pause));
         let Draft {
             body,
             ports,
@@ -94,7 +94,7 @@ impl Poster {
 
     /// `post`, of a draft whose body and ports are lent. They are gone once it is accepted; after
     /// an error they are there as they were.
-    pub fn post_lent<R: Wait>(
+    pub fn post_lent_body_and_ports<R: Wait>(
         &mut self,
         rt: &R,
         yard: &Depot<Onward>,
@@ -110,11 +110,11 @@ impl Poster {
         ensures rung { HasRung self.old self.new
             (answer_back result (lent_draft head body.old ports.old)) }
     {
-        let (mut lender, mut heard) = (yard.as_locked(), Paused(&NoPause));
+        let (mut lender, mut heard) = (yard.as_lock(), Paused(&NoPause));
         self.post_with_lent_yard(rt, &mut lender, head, body, ports, &mut heard)
     }
 
-    /// `post_lent`, over a yard that anybody lends, and told to anybody.
+    /// `post_lent_body_and_ports`, over a yard that anybody lends, and told to anybody.
     ///
     /// Of a yard that is shown: the line takes out of it the stands at the queues that
     /// it goes on to, and no other. `Moving` comes after `MAX_HOPS` of them, or where the yard has

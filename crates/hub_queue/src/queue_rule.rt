@@ -144,7 +144,7 @@ impl Split<PassView> for GiveBack {
 /// `chain`: so line by line, what was taken out of all queues, joined, is a prefix of what was put
 /// there, joined: all of each queue that was left, and what a meeting shows of the one where the
 /// taker stands.
-pub fn queue_chain_laws()
+pub fn prove_queue_chain_laws()
     ensures rule { RuleShowsQueue ⟦<QueueRule as Protocol<Envelope, PassView>>⟧.holds }
     ensures prefix { TakenIsPrefix ⟦<QueueRule as Protocol<Envelope, PassView>>⟧.holds }
     ensures in_turn { TakesInTurn }

@@ -18,7 +18,7 @@ use std::sync::Wait;
 use std::sync::ledger::{Blank, Ledger};
 
 /// Takes in the passes of all lines, whose rights these are, in order.
-fn take_in_all_passes(store: &Store, pass: &mut Pass, mut rights: Vec<LineRight>)
+fn absorb_passes_of_lines(store: &Store, pass: &mut Pass, mut rights: Vec<LineRight>)
     requires queue { IsSegPassOf store.now.queue pass.old }
     requires taker { known_by pass.old ≡ Takes (take_in (known_by pass.old)) }
     requires rights { map tag_of rights.items ≡ tags_of store.now.queue.web (length rights.items) }
@@ -44,7 +44,7 @@ impl TakerQueue {
     {
         match self.keeper.look() {
             Looked::Rights(rights) => {
-                take_in_all_passes(&self.store, &mut self.pass, rights);
+                absorb_passes_of_lines(&self.store, &mut self.pass, rights);
                 true
             }
             Looked::Given => true,

@@ -19,7 +19,7 @@ ghost use Rattle.hub_queue.specs.Yards.{IsHoppedOver, hops_between};
 use crate::error::PostError;
 use crate::left::LeftGates;
 use crate::line_right::{Head, LineRight};
-use crate::onward::{Onward, take_next_stand};
+use crate::onward::{Onward, take_next_stand_from_yard};
 use crate::pause::Point;
 use hub_bell::Bell;
 use hub_depot::{Kept, Key};
@@ -112,7 +112,7 @@ pub(crate) enum Tried {
 /// Puts the draft, leaves, and puts the entry back in its place. Whoever has left an enabled gate
 /// rings the bell.
 #[inline(always)]
-fn post_inside<H: Hears<Point>, R: Wait>(
+fn put_leave_ring_if_enabled<H: Hears<Point>, R: Wait>(
     rt: &R,
     mut inside: Inside<LineRight>,
     name: Key,
@@ -168,7 +168,9 @@ impl Stand {
         match self.entry.take().unwrap().enter() {
             Entered::In(inside) => {
                 let kept = &mut self.entry;
-                Tried::Answered(post_inside(rt, inside, name, kept, bell, head, body, ports, heard))
+                Tried::Answered(put_leave_ring_if_enabled(
+                    rt, inside, name, kept, bell, head, body, ports, heard,
+                ))
             }
             Entered::Turned(entry, refusal) => {
                 self.entry = Some(entry);
@@ -211,7 +213,7 @@ impl Stand {
                 return Err(PostError::Closed);
             }
             heard.tell(rt, Point::Hopping);
-            let Some(next) = take_next_stand(rt, yard, self.name) else {
+            let Some(next) = take_next_stand_from_yard(rt, yard, self.name) else {
                 return Err(PostError::Moving);
             };
             self.move_to_next_queue(next);

@@ -6,7 +6,7 @@ ghost use Rattle.hub_queue.specs.Ending.{IsClosed};
 ghost use Rattle.hub_queue.specs.TakerQueues.{IsShut};
 ghost use Rattle.hub_queue.specs.Taking.{IsTaken, IsTakenOldest, started};
 
-use crate::adopting::open_next_queue;
+use crate::adopting::open_queue_and_lay_onwards;
 use crate::error::AdoptError;
 use crate::grave::Grave;
 use crate::left::LeftQueue;
@@ -100,7 +100,7 @@ impl Model for Taker {
 
 /// Takes from the oldest of these queues, which are retired, and frees it once it was left. `None`
 /// where there is none.
-fn take_from_oldest_queue<L: Ledger, R: Wait>(
+fn take_at_oldest_retired<L: Ledger, R: Wait>(
     rt: &R,
     retired: &mut VecDeque<TakerQueue>,
     left: &mut Option<LeftQueue>,
@@ -141,10 +141,10 @@ impl Taker {
     pub fn take<L: Ledger, R: Wait>(&mut self, rt: &R, steps: &mut Steps<L>) -> Took
         ensures { IsTaken self.old self.new steps.old steps.new result }
     {
-        if !self.newest.enabled() {
+        if !self.newest.is_enabled() {
             return Took::Disabled;
         }
-        let Some(took) = take_from_oldest_queue(rt, &mut self.retired, &mut self.left, steps) else {
+        let Some(took) = take_at_oldest_retired(rt, &mut self.retired, &mut self.left, steps) else {
             return self.newest.take_as_newest_queue(rt, steps);
         };
         match took {
@@ -191,7 +191,7 @@ impl Taker {
     ) -> Result<Taker, (AdoptError, Taker)>
         ensures { IsAdopted self result }
     {
-        let mut lender = yard.as_locked();
+        let mut lender = yard.as_lock();
         self.adopt_with_lent_yard(rt, &mut lender, bell)
     }
 
@@ -218,7 +218,15 @@ impl Taker {
         if self.retired.reserve(1).is_err() {
             return Err((AdoptError::OutOfMemory, self));
         }
-        match open_next_queue(rt, yard, self.alloc, self.end, moves + 1, self.lines, &bell) {
+        match open_queue_and_lay_onwards(
+            rt,
+            yard,
+            self.alloc,
+            self.end,
+            moves + 1,
+            self.lines,
+            &bell,
+        ) {
             Ok(queue) => {
                 self.newest.retire();
                 let older = replace(&mut self.newest, queue);

@@ -93,7 +93,7 @@ impl Model for TakerQueue {
 
 impl TakerQueue {
     /// Whether the gate is enabled.
-    pub(crate) fn enabled(&self) -> bool
+    pub(crate) fn is_enabled(&self) -> bool
         ensures { result ≡ nat_lt 0 self.now.keeper.at.enables }
     {
         self.keeper.enabled()

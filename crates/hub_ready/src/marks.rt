@@ -69,7 +69,7 @@ fn first_set_bit_from(word: u64, from: u32) -> Option<u32>
 }
 
 /// The first bit that is set in one word, from this one of its bits on.
-fn first_set_bit_in_word(words: &[u64], place: usize, bit: u32) -> Option<usize>
+fn next_set_bit_in_word(words: &[u64], place: usize, bit: u32) -> Option<usize>
     requires place { place < length words.now }
     requires bit { bit < 64 }
     requires few { length words.now ≤ 2 ^ 40 }
@@ -89,7 +89,7 @@ fn first_set_bit_in_words(words: &[u64], from: usize) -> Option<usize>
 {
     let mut bit = (from % 64) as u32;
     for place in from / 64..words.len() {
-        if let Some(key) = first_set_bit_in_word(words, place, bit) {
+        if let Some(key) = next_set_bit_in_word(words, place, bit) {
             return Some(key);
         }
         bit = 0;
@@ -193,17 +193,13 @@ impl Marks {
         if place >= self.words.len() {
             return None;
         }
-        if let Some(found) = first_set_bit_in_word(
-            self.words.as_slice(),
-            place,
-            (key % 64) as u32,
-        ) {
+        if let Some(found) = next_set_bit_in_word(self.words.as_slice(), place, (key % 64) as u32) {
             return Some(found);
         }
         let place = first_set_bit_in_words(self.names.as_slice(), place + 1)?;
         if place >= self.words.len() {
             return None;
         }
-        first_set_bit_in_word(self.words.as_slice(), place, 0)
+        next_set_bit_in_word(self.words.as_slice(), place, 0)
     }
 }

@@ -124,7 +124,7 @@ fn make_agent_seat(
 }
 
 impl Seats {
-    fn new(alloc: Global, count: usize) -> Result<Seats, OutOfMemory>
+    fn make_for_all_agents(alloc: Global, count: usize) -> Result<Seats, OutOfMemory>
         requires { count ≤ MAX_AGENTS }
         ensures len { IfOk result (λ made. vec_len made.seats ≡ count) }
         ensures seated { IfOk result (λ made. AreSeated made.seats.items) }
@@ -179,7 +179,7 @@ fn make_queue<R: Wait>(
 }
 
 /// Makes a channel, both of whose ports the agent of that number is to hold.
-fn make_channel(
+fn make_channel_of_agent(
     alloc: Global,
     ends: &mut Ends,
     bells: &[Bell],
@@ -264,11 +264,11 @@ impl<'s, C: Checkpoint> Made<'s, C> {
         ensures drawn { IfOk result (λ made. made.ends.drawn ≡ 0) }
     {
         let declared = script.agents();
-        let Seats { seats, bells } = Seats::new(alloc, declared.len())?;
+        let Seats { seats, bells } = Seats::make_for_all_agents(alloc, declared.len())?;
         let mut agents = Vec::new(alloc);
         for seat in seats {
             let kind = declared[agents.len()].kind;
-            let agent = Agent::try_new(alloc, kind, shared, roster.as_locked(), checkpoint, seat)?;
+            let agent = Agent::try_new(alloc, kind, shared, roster.as_lock(), checkpoint, seat)?;
             push_or_drop(&mut agents, agent)?;
         }
         Ok(Made {
@@ -309,7 +309,12 @@ impl<'s, C: Checkpoint> Made<'s, C> {
             ≡ length (declared_agents script.now) + port_count script.now) }
     {
         for declared in script.channels() {
-            let (port, other) = make_channel(alloc, &mut self.ends, &self.bells, declared.at)?;
+            let (port, other) = make_channel_of_agent(
+                alloc,
+                &mut self.ends,
+                &self.bells,
+                declared.at,
+            )?;
             self.give_end_before_run(declared.at, port)?;
             self.give_end_before_run(declared.at, other)?;
         }

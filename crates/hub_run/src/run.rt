@@ -56,7 +56,7 @@ type AgentThread<'a> = PromisedHandle<Ran, Part<'a>>;
 /// Starts a thread for each agent, in order. Each waits until all threads were made, and does
 /// nothing where one couldn't be made. It is a function of its own, since between the first thread
 /// and the signal that they wait for nothing may be left out.
-fn start_all<'s, E, C: Checkpoint + Sync, R: Threads + Wait + Sync>(
+fn spawn_waiting_agent_threads<'s, E, C: Checkpoint + Sync, R: Threads + Wait + Sync>(
     scope: &'s Scope<'s, E>,
     alloc: Global,
     rt: &'s R,
@@ -144,7 +144,7 @@ fn run_on_threads<C: Checkpoint + Sync, R: Threads + Wait + Sync>(
             ensures { IfOk result (λ joined.
                 AreRunsFor script.entry.now joined.logs.items joined.acted.items) }
         {
-            let handles = start_all(scope, alloc, rt, begun, script, made);
+            let handles = spawn_waiting_agent_threads(scope, alloc, rt, begun, script, made);
             let _ = begun.set(rt, handles.is_ok());
             join_all(rt, script, handles?, run)
         },

@@ -14,7 +14,7 @@ fn end_in(round: u32) -> EndId {
 
 /// The one end whose bit is set. `None` where none or more are set.
 fn rung(listener: &mut Listener) -> Option<u32> {
-    let names = listener.take_names();
+    let names = listener.take_rung_groups();
     if names.count_ones() != 1 {
         return None;
     }
@@ -41,7 +41,7 @@ const RUNG: &[u32] = &[0, 63, 64, 1_023, 1_024, 4_096, 65_535];
 #[test]
 fn a_ring_sets_the_bit_of_its_end(rt: HostRuntime) -> Result<(), Fail> {
     let (mut listener, mut bell) = Listener::open(rt.alloc())?;
-    assert_same(&rt, "before a ring", listener.take_names(), 0);
+    assert_same(&rt, "before a ring", listener.take_rung_groups(), 0);
     for end in RUNG {
         bell.ring(EndId(*end));
         assert_same(&rt, "after a ring", rung(&mut listener), Some(*end));
@@ -58,7 +58,7 @@ fn rings_of_two_bells_are_found_together(rt: HostRuntime) {
     other.ring(EndId(5));
     bell.clone().expect(&rt, "memory").ring(EndId(5_450));
     other.ring(EndId(7));
-    assert_same(&rt, "names", listener.take_names(), 1 | 1 << 5);
+    assert_same(&rt, "names", listener.take_rung_groups(), 1 | 1 << 5);
     assert_same(&rt, "word 0", listener.take_bits(0), 1 << 5 | 1 << 7);
     assert_same(&rt, "word 85", listener.take_bits(85), 1 << 10);
     assert_same(&rt, "word 85 again", listener.take_bits(85), 0);
@@ -73,7 +73,7 @@ fn nobody_sleeps_who_was_rung_or_woken(rt: HostRuntime) -> Result<(), Fail> {
     assert_same(&rt, "the ring", rung(&mut listener), Some(9));
     bell.wake();
     listener.sleep(&rt);
-    assert_same(&rt, "names", listener.take_names(), 0);
+    assert_same(&rt, "names", listener.take_rung_groups(), 0);
     Ok(())
 }
 

@@ -162,7 +162,7 @@ fn depot_keeps_whichever_allocation_is_refused(rt: HostRuntime) {
 /// what was kept before it and after it is there.
 #[test]
 fn kept_changes_nothing_whichever_allocation_is_refused(rt: HostRuntime) -> Result<(), Fail> {
-    let mut kept = Kept::new(rt.alloc());
+    let mut kept = Kept::empty(rt.alloc());
     let mut refused = None;
     for number in 0..60 {
         match kept.put(Ticket::numbered(number)) {

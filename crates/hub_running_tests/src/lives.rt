@@ -13,8 +13,8 @@ fn a_life_shows_what_it_waits_for(rt: HostRuntime) {
         assert!(rt; life.event(event).is_ok(), "{event:?}");
     }
     assert_same(&rt, "state", life.state(), State::Installing);
-    assert_same(&rt, "open", life.extension_count(), 1);
-    assert!(rt; life.is_handling() && life.has_failed());
+    assert_same(&rt, "open", life.open_extension_count(), 1);
+    assert!(rt; life.is_handling() && life.has_failed_extension());
 }
 
 /// Two seats of one order.

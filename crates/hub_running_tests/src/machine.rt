@@ -2,8 +2,9 @@
 //! answered is shown by the rows of tests/rows/steps.
 use crate::assert_same;
 use hub_core::{
-    Action, Core, OutOfMemory, Outcome, Sender, Step, gate_machine_laws, history_laws,
-    history_pair_laws, mailbox_chain_laws, mailbox_laws, queue_laws, run,
+    Action, Core, OutOfMemory, Outcome, Sender, Step, prove_gate_machine_laws, prove_history_laws,
+    prove_mailbox_chain_laws, prove_mailboxes_show_history, prove_queue_laws,
+    prove_steps_are_mailbox_events, run,
 };
 use hub_envelope::{AgentId, Body, EndId, Items, LineId};
 use std::alloc::Global;
@@ -47,7 +48,7 @@ const TOLD: &[&str] = &[
 
 fn push(alloc: Global) -> Result<Action, OutOfMemory> {
     match Body::read(alloc, "{\"a\":1}") {
-        Ok(body) => Ok(Action::Push(LINE, Items::of_list(Vec::new(alloc)), body)),
+        Ok(body) => Ok(Action::Push(LINE, Items::from_vec(Vec::new(alloc)), body)),
         Err(_) => Err(OutOfMemory),
     }
 }
@@ -142,10 +143,10 @@ fn has_sixteen_agents(rt: HostRuntime) -> Result<(), Fail> {
 /// The laws are the contracts of these functions, which do nothing.
 #[test]
 fn calls_the_laws() {
-    history_laws();
-    queue_laws();
-    gate_machine_laws::<u8>();
-    mailbox_chain_laws::<u8>();
-    mailbox_laws();
-    history_pair_laws();
+    prove_history_laws();
+    prove_queue_laws();
+    prove_gate_machine_laws::<u8>();
+    prove_mailbox_chain_laws::<u8>();
+    prove_mailboxes_show_history();
+    prove_steps_are_mailbox_events();
 }

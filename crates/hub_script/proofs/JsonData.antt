@@ -23,7 +23,7 @@ use Rattle.serde_json.proofs.Views.{get_member-put, get_member-put_other}
 use Rattle.hub_text.specs.Reading.{some_or}
 use Rattle.hub_script.specs.declared.error.ScriptError.TheVariants.{Syntax}
 use Rattle.hub_script.specs.Fields.{ScriptRead, member_names}
-use Rattle.hub_script.specs.JsonData.{IsWritable, data_of, is_in_range, items_in_range, items_of, json_in, members_in_range, members_of, json_names}
+use Rattle.hub_script.specs.JsonData.{IsWritable, data_of, are_numbers_in_range, items_in_range, items_of, json_in, members_in_range, members_of, json_names}
 
 -- ---- a value is converted exactly where its numbers are in range
 
@@ -40,7 +40,7 @@ then_is f true c x y h = h
 then_is f false c x y h = refl
 
 mutual
-  converts : (j : json.Json) → of_json j ≡ cond (is_in_range j) (Some (data_of j)) None
+  converts : (j : json.Json) → of_json j ≡ cond (are_numbers_in_range j) (Some (data_of j)) None
   converts json.null = refl
   converts (json.boolean b) = refl
   converts (json.number s) = number_is (number_of s)
@@ -53,7 +53,7 @@ mutual
   converts_items (json.item j js) =
       let more = λ (d : Data). option_map (item d) (items_of_json js) in
       ap (option_and_then more) (converts j)
-      ∙ then_is more (is_in_range j) (items_in_range js) (data_of j) (item (data_of j) (items_of js))
+      ∙ then_is more (are_numbers_in_range j) (items_in_range js) (data_of j) (item (data_of j) (items_of js))
       (ap (option_map (item (data_of j))) (converts_items js) ∙ map_is (item (data_of j)) (items_in_range js) (items_of js))
 
   converts_members : (ms : json.Members) (found : Members) → members_of_json ms found ≡ cond (members_in_range ms) (Some (members_of ms found)) None
@@ -61,12 +61,12 @@ mutual
   converts_members (json.member k j ms) found =
       let more = λ (d : Data). members_of_json ms (put k d found) in
       ap (option_and_then more) (converts j)
-      ∙ then_is more (is_in_range j) (members_in_range ms) (data_of j) (members_of ms (put k (data_of j) found)) (converts_members ms (put k (data_of j) found))
+      ∙ then_is more (are_numbers_in_range j) (members_in_range ms) (data_of j) (members_of ms (put k (data_of j) found)) (converts_members ms (put k (data_of j) found))
 
-in_range : (j : json.Json) → is_in_range j ≡ true → of_json j ≡ Some (data_of j)
+in_range : (j : json.Json) → are_numbers_in_range j ≡ true → of_json j ≡ Some (data_of j)
 in_range j h = converts j ∙ ap (λ (b : Bool). cond b (Some (data_of j)) None) h
 
-out_of_range : (j : json.Json) → is_in_range j ≡ false → of_json j ≡ None
+out_of_range : (j : json.Json) → are_numbers_in_range j ≡ false → of_json j ≡ None
 out_of_range j h = converts j ∙ ap (λ (b : Bool). cond b (Some (data_of j)) None) h
 
 -- ---- what a text reads as, by the JSON value that it is
@@ -78,10 +78,10 @@ by_value : (o : Option json.Json) (j : json.Json) → some_or Syntax o ≡ Ok j 
 by_value None j h = cc
 by_value (Some i) j h = let same : i ≡ j = cc in ap (λ (x : json.Json). converted (Some x)) same
 
-pub read_in_range : (text : List ℕ) (j : json.Json) → some_or Syntax (json_in text) ≡ Ok j → is_in_range j ≡ true → some_or Syntax (read text) ≡ Ok (data_of j)
+pub read_in_range : (text : List ℕ) (j : json.Json) → some_or Syntax (json_in text) ≡ Ok j → are_numbers_in_range j ≡ true → some_or Syntax (read text) ≡ Ok (data_of j)
 read_in_range text j h g = by_value (json_in text) j h ∙ ap (λ (o : Option Data). some_or Syntax o) (in_range j g)
 
-pub read_out_of_range : (text : List ℕ) (j : json.Json) → some_or Syntax (json_in text) ≡ Ok j → is_in_range j ≡ false → some_or Syntax (read text) ≡ Err Syntax
+pub read_out_of_range : (text : List ℕ) (j : json.Json) → some_or Syntax (json_in text) ≡ Ok j → are_numbers_in_range j ≡ false → some_or Syntax (read text) ≡ Err Syntax
 read_out_of_range text j h g = by_value (json_in text) j h ∙ ap (λ (o : Option Data). some_or Syntax o) (out_of_range j g)
 
 -- ---- the field of a name is the last member of that name
@@ -182,7 +182,7 @@ passes_if P true j h = h
 passes_if P false j h = tt
 
 abbrev Fits : json.Json → Type 0
-Fits j = is_in_range j ≡ true
+Fits j = are_numbers_in_range j ≡ true
 
 abbrev NestsWithin : ℕ → json.Json → Type 0
 NestsWithin n j = tree.depth j ≤ n
@@ -190,7 +190,7 @@ NestsWithin n j = tree.depth j ≤ n
 members_fit : (name : List ℕ) (ms : json.Members) → members_in_range ms ≡ true → Passes Fits (find.get_member name ms)
 members_fit name json.no_members h = tt
 members_fit name (json.member k j ms) h =
-    let parts = and_parts (is_in_range j) (members_in_range ms) h in
+    let parts = and_parts (are_numbers_in_range j) (members_in_range ms) h in
     passes_later Fits (find.get_member name ms) (cond (bytes_eq k name) (Some j) None) (members_fit name ms parts.1) (passes_if Fits (bytes_eq k name) j parts.0)
 
 members_nest : (name : List ℕ) (ms : json.Members) (n : ℕ) → tree.members_depth ms ≤ n → Passes (NestsWithin n) (find.get_member name ms)
@@ -198,7 +198,7 @@ members_nest name json.no_members n h = tt
 members_nest name (json.member k j ms) n h =
     passes_later (NestsWithin n) (find.get_member name ms) (cond (bytes_eq k name) (Some j) None) (members_nest name ms n (omega arith)) (passes_if (NestsWithin n) (bytes_eq k name) j (omega arith))
 
-fits_in : (name : List ℕ) (j : json.Json) → is_in_range j ≡ true → Passes Fits (find.get name j)
+fits_in : (name : List ℕ) (j : json.Json) → are_numbers_in_range j ≡ true → Passes Fits (find.get name j)
 fits_in name json.null h = tt
 fits_in name (json.boolean b) h = tt
 fits_in name (json.number s) h = tt

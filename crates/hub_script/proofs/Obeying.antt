@@ -14,7 +14,7 @@ use Rattle.hub_script.specs.declared.script_reader.NamedEnd.{NamedEnd}
 use Rattle.hub_script.specs.declared.script_reader.NameKind.{NameKind}
 use Rattle.hub_script.specs.declared.script_reader.NameKind.TheVariants.{Port, Member}
 use Rattle.hub_script.specs.declared.error.ScriptError.{ScriptError}
-use Rattle.hub_script.specs.Context.{adding, after_form, are_known, has_agent, has_small_body, has_twice, holds_end, holds_named, is_member, is_port, is_within, lists_source, names_port, of_port, require, run, tests}
+use Rattle.hub_script.specs.Context.{adding, after_form, are_known, has_agent_of_number, has_small_body, has_twice, holds_end, holds_named, is_member, is_port, is_within, lists_source, names_port, of_port, require, run, tests}
 use Rattle.hub_script.specs.Fields.{ScriptRead}
 use Rattle.hub_script.specs.Known.{Known}
 use Rattle.hub_script.specs.Laws.{ClosesHeld, HoldsName, HoldsPort, PostsHeld, SendsHeld, StartsHeld}
@@ -52,7 +52,7 @@ rest_passes p x xs h = (and_parts (p x) (list_all p xs) h).1
 -- what is known of the ports and of the names that are used
 names_pass : (k : Known) (f : Form) → are_known k f ≡ true → (list_all (is_port k) (ports_named f) ≡ true) × (list_all (λ used. holds_named k used.0 used.1) (names_used f) ≡ true)
 names_pass k f h =
-    let p = and_parts (list_all (has_agent k) (agents_named f)) (list_all (is_port k) (ports_named f) && (list_all (is_member k) (members_named f) && list_all (λ used. holds_named k used.0 used.1) (names_used f))) h in
+    let p = and_parts (list_all (has_agent_of_number k) (agents_named f)) (list_all (is_port k) (ports_named f) && (list_all (is_member k) (members_named f) && list_all (λ used. holds_named k used.0 used.1) (names_used f))) h in
     let q = and_parts (list_all (is_port k) (ports_named f)) (list_all (is_member k) (members_named f) && list_all (λ used. holds_named k used.0 used.1) (names_used f)) p.1 in
     (q.0, (and_parts (list_all (is_member k) (members_named f)) (list_all (λ used. holds_named k used.0 used.1) (names_used f)) q.1).1)
 

@@ -22,7 +22,7 @@ use Rattle.hub_script.specs.declared.error.ScriptError.{ScriptError}
 use Rattle.hub_script.specs.declared.error.ScriptError.TheVariants.{Syntax, UnknownAction, UnknownName, DataClone, TooLarge, OutOfMemory}
 use Rattle.hub_script.specs.declared.error.DataCloneCause.TheVariants.{Source, Twice, Detached}
 use Rattle.hub_script.specs.Before.{Gets, Hands, HoldsAt, IsDeclared, IsMember, IsPort, agent_kinds}
-use Rattle.hub_script.specs.Context.{acting, adding, adding_action, adding_channel, adding_member, after_form, agent_of, are_known, casting, declared_ends, has_no_action, has_room, has_twice, holds_list, is_unused, is_placed, is_within, lists_source, named_end, posting, run, sending, tests, value_or}
+use Rattle.hub_script.specs.Context.{acting, adding, adding_action, adding_channel, adding_member, after_form, agent_of, are_known, casting, declared_ends, has_no_action, has_room, has_twice, holds_list, is_unused, is_placed, is_within, lists_source, declared_end_of_name, posting, run, sending, tests, value_or}
 use Rattle.hub_script.specs.Contents.{actions, with_declared, with_channel, with_member}
 use Rattle.hub_script.specs.Fields.{ScriptRead}
 use Rattle.hub_script.specs.Known.{Known, declaring, declared_end, giving, giving_all, holding, next_member, next_port, queue_of, second_port, taking_more, with_handed, with_holds, with_script}
@@ -90,7 +90,7 @@ agent_found P before k f at g p c good =
 
 -- a name that is declared is found
 name_found : {X : Type 0} (P : ScriptRead X → Type 0) (before : List Form) (k : Known) (n : List ℕ) (g : NamedEnd → ScriptRead X) → Stands before k → IsDeclared before n
-    → ((x : NamedEnd) → k.names n ≡ Some x → P (g x)) → P (named_end k n >>= g)
+    → ((x : NamedEnd) → k.names n ≡ Some x → P (g x)) → P (declared_end_of_name k n >>= g)
 name_found P before k n g s is good = by (k.names n) refl (s.names n)
   where
     by : (o : Option NamedEnd) → k.names n ≡ o → NameAs o (IsPort before n) (IsMember before n) → P (some_or UnknownName o >>= g)
@@ -114,7 +114,7 @@ names_found P before k found xs (n ∷ names) g s are declared good =
     (λ m c. declared m (contains_rest n names m c))
     (λ ends zip. good ends (subst (λ ns. AllZip (λ m y. k.names m ≡ Some y) ns ends) (append_assoc found (n ∷ []) names) zip)))
   where
-    each_found : ((x : NamedEnd) → k.names n ≡ Some x → P (declared_ends k (xs ++ x ∷ []) names >>= g)) → P (named_end k n >>= (λ x. declared_ends k (xs ++ x ∷ []) names) >>= g)
+    each_found : ((x : NamedEnd) → k.names n ≡ Some x → P (declared_ends k (xs ++ x ∷ []) names >>= g)) → P (declared_end_of_name k n >>= (λ x. declared_ends k (xs ++ x ∷ []) names) >>= g)
     each_found each = by (k.names n) refl (s.names n)
       where
         by : (o : Option NamedEnd) → k.names n ≡ o → NameAs o (IsPort before n) (IsMember before n) → P (some_or UnknownName o >>= (λ x. declared_ends k (xs ++ x ∷ []) names) >>= g)
@@ -189,7 +189,7 @@ start_adds before k at n p = by (bytes_eq n (codes "queue")) refl
     starts : (end : EndId) → Outcome before (form.Action at (Start n)) (Ok (acting k (record { 0 = at }) (action.Start end)))
     starts end = quiet before k at (Start n) (action.Start end) p refl (λ a m h. h) (λ a m. elim [ inl h ↦ h | inr h ↦ h ]) (λ a h. h)
 
-    by : (b : Bool) → bytes_eq n (codes "queue") ≡ b → Outcome before (form.Action at (Start n)) (started (cond b (Ok (queue_of (record { 0 = at }))) (named_end k n >>= λ port. Ok (declared_end k.script port))))
+    by : (b : Bool) → bytes_eq n (codes "queue") ≡ b → Outcome before (form.Action at (Start n)) (started (cond b (Ok (queue_of (record { 0 = at }))) (declared_end_of_name k n >>= λ port. Ok (declared_end k.script port))))
     by true e = starts (queue_of (record { 0 = at }))
     by false e =
         name_found (λ r. Outcome before (form.Action at (Start n)) (started r)) before k n (λ port. Ok (declared_end k.script port)) p.stands

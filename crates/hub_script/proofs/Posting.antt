@@ -6,11 +6,11 @@ use Rattle.hub_envelope.specs.declared.ids.EndId.{EndId}
 use Rattle.hub_script.specs.declared.action.ActionKind.{ActionKind}
 use Rattle.hub_script.specs.declared.action.ActionKind.TheVariants as action
 use Rattle.hub_script.specs.declared.script_reader.NamedEnd.{NamedEnd}
-use Rattle.hub_script.specs.Context.{acting, agent_of, declared_ends, named_end, posting, sending, value_or}
+use Rattle.hub_script.specs.Context.{acting, agent_of, declared_ends, declared_end_of_name, posting, sending, value_or}
 use Rattle.hub_script.specs.Known.{Known, declared_end, giving_all, queue_of, with_holds}
 
 pub posted : (k : Known) (n : List ℕ) (answer : Result (List ℕ) BodyError) (names : List (List ℕ)) (a : AgentId) (port : NamedEnd) (ports : List NamedEnd) (body : List ℕ)
-    → named_end k n ≡ Ok port → declared_ends k [] names ≡ Ok ports → value_or answer ≡ Ok body
+    → declared_end_of_name k n ≡ Ok port → declared_ends k [] names ≡ Ok ports → value_or answer ≡ Ok body
     → posting k a n answer names ≡ Ok (with_holds (acting k a (action.Post (declared_end k.script port) body (map (declared_end k.script) ports))) (giving_all a ports))
 unfolding posting
 posted k n answer names a port ports body is listed read = rw (is, listed, read) refl

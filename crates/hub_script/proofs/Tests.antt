@@ -25,7 +25,7 @@ use Rattle.hub_script.specs.declared.script_reader.NameKind.{NameKind}
 use Rattle.hub_script.specs.declared.script_reader.NameKind.TheVariants.{Port, Member}
 use Rattle.hub_script.specs.Before.{Hands, HasHanded, HoldsAt, IsAction, IsDeclared, IsMember, IsPort, Transfers, agent_kind, agent_kinds}
 use Rattle.hub_script.specs.Contents.{actions, declared_agents, line_count}
-use Rattle.hub_script.specs.Context.{are_known, declared_as, has_agent, has_no_action, has_room, has_small_body, has_twice, holds_end, holds_list, is_agent, is_unused, holds_named, is_kind, is_member, is_placed, is_port, is_small, is_timely, is_within, lists_source, may_start_queue, names_member, names_port, of_port, stands_in}
+use Rattle.hub_script.specs.Context.{are_known, declared_as, has_agent_of_number, has_no_action, has_room, has_small_body, has_twice, holds_end, holds_list, is_agent, is_unused, holds_named, is_kind, is_member, is_placed, is_port, is_body_within_limits, is_timely, is_within, lists_source, agent_may_start_queue, names_member, names_port, of_port, stands_in}
 use Rattle.hub_script.specs.Known.{Known}
 use Rattle.hub_script.specs.Refusals.{AreKnown, HasDetached, HasEvent, HasUnknown, IsMisplaced, IsOwnQueue, IsTooLarge, ListsSource, StandsTwice, StartsQueue}
 use Rattle.hub_script.specs.Uses.{agents_named, body_of, members_named, names_declared, names_used, ports_named, transfer_of, transferred}
@@ -59,8 +59,8 @@ each_passes p P d xs h = (Decides-by_and p P (list_all p) d refl (λ _ _. refl) 
 pub agent_count : (before : List Form) (k : Known) → Stands before k → length (declared_agents k.script) ≡ length (agent_kinds before)
 agent_count before k s = sym (length-map (declared_agents k.script) (λ (a : DeclaredAgent). a.kind)) ∙ ap length s.agents
 
-pub agent_decides : (before : List Form) (k : Known) (at : ℕ) → Stands before k → Decides (has_agent k at) (at < length (agent_kinds before))
-agent_decides before k at s = by (has_agent k at) refl
+pub agent_decides : (before : List Form) (k : Known) (at : ℕ) → Stands before k → Decides (has_agent_of_number k at) (at < length (agent_kinds before))
+agent_decides before k at s = by (has_agent_of_number k at) refl
   where
     by : (b : Bool) → nat_lt at (length (declared_agents k.script)) ≡ b → Decides b (at < length (agent_kinds before))
     by true e = ((λ _. (omega (arith, ltb-true at (length (declared_agents k.script)) e, agent_count before k s))), λ _. refl)
@@ -214,18 +214,18 @@ detached before k f s h = absurd (cc)
 
 pub known : (before : List Form) (k : Known) (f : Form) → Stands before k → are_known k f ≡ true → AreKnown before f
 known before k f s h =
-    let p = and_parts (list_all (has_agent k) (agents_named f)) (list_all (is_port k) (ports_named f) && (list_all (is_member k) (members_named f) && list_all (λ used. holds_named k used.0 used.1) (names_used f))) h in
+    let p = and_parts (list_all (has_agent_of_number k) (agents_named f)) (list_all (is_port k) (ports_named f) && (list_all (is_member k) (members_named f) && list_all (λ used. holds_named k used.0 used.1) (names_used f))) h in
     let q = and_parts (list_all (is_port k) (ports_named f)) (list_all (is_member k) (members_named f) && list_all (λ used. holds_named k used.0 used.1) (names_used f)) p.1 in
     let r = and_parts (list_all (is_member k) (members_named f)) (list_all (λ used. holds_named k used.0 used.1) (names_used f)) q.1 in
     record {
-      agents = each_passes (has_agent k) (λ a. a < length (agent_kinds before)) (λ a. agent_decides before k a s) (agents_named f) p.0;
+      agents = each_passes (has_agent_of_number k) (λ a. a < length (agent_kinds before)) (λ a. agent_decides before k a s) (agents_named f) p.0;
       ports = each_passes (is_port k) (IsPort before) (λ n. port_decides before k n s) (ports_named f) q.0;
       members = each_passes (is_member k) (IsMember before) (λ n. member_decides before k n s) (members_named f) r.0;
       held = each_passes (λ used. holds_named k used.0 used.1) (λ used. HoldsAt before used.0 used.1) (λ used. held_decides before k used.0 used.1 s) (names_used f) r.1;
     }
 
 pub unknown : (before : List Form) (k : Known) (f : Form) → Stands before k → are_known k f ≡ false → HasUnknown before f
-unknown before k f s h = elim (and_cases (list_all (has_agent k) (agents_named f)) (list_all (is_port k) (ports_named f) && (list_all (is_member k) (members_named f) && list_all (λ used. holds_named k used.0 used.1) (names_used f))) h) [
+unknown before k f s h = elim (and_cases (list_all (has_agent_of_number k) (agents_named f)) (list_all (is_port k) (ports_named f) && (list_all (is_member k) (members_named f) && list_all (λ used. holds_named k used.0 used.1) (names_used f))) h) [
   | inl e ↦ agent e
   | inr e ↦ (elim (and_cases (list_all (is_port k) (ports_named f)) (list_all (is_member k) (members_named f) && list_all (λ used. holds_named k used.0 used.1) (names_used f)) e) as (λ _. HasUnknown before f) [
     | inl g ↦ port g
@@ -233,8 +233,8 @@ unknown before k f s h = elim (and_cases (list_all (has_agent k) (agents_named f
   ])
 ]
   where
-    agent : list_all (has_agent k) (agents_named f) ≡ false → HasUnknown before f
-    agent e = let r : (a : ℕ) × Contains (agents_named f) a × (¬ (a < length (agent_kinds before))) = one_fails (has_agent k) (λ a. a < length (agent_kinds before)) (λ a. agent_decides before k a s) (agents_named f) e in HasUnknown.no_agent r.0 r.1 (omega (arith, r.2))
+    agent : list_all (has_agent_of_number k) (agents_named f) ≡ false → HasUnknown before f
+    agent e = let r : (a : ℕ) × Contains (agents_named f) a × (¬ (a < length (agent_kinds before))) = one_fails (has_agent_of_number k) (λ a. a < length (agent_kinds before)) (λ a. agent_decides before k a s) (agents_named f) e in HasUnknown.no_agent r.0 r.1 (omega (arith, r.2))
 
     port : list_all (is_port k) (ports_named f) ≡ false → HasUnknown before f
     port e = let r : (n : List ℕ) × Contains (ports_named f) n × (¬ IsPort before n) = one_fails (is_port k) (IsPort before) (λ n. port_decides before k n s) (ports_named f) e in HasUnknown.no_port r.0 r.1 r.2
@@ -254,7 +254,7 @@ pub full : (before : List Form) (k : Known) → Stands before k → has_room k �
 full before k s h = subst (λ n. MAX_SCRIPT_LINES ≤ n) s.count (ltb-false (line_count k.script) MAX_SCRIPT_LINES h)
 
 -- why a body isn't small
-large_body : (answer : Result (List ℕ) BodyError) → is_small answer ≡ false → (answer ≡ Err TooDeep) ⊎ (answer ≡ Err TooLong)
+large_body : (answer : Result (List ℕ) BodyError) → is_body_within_limits answer ≡ false → (answer ≡ Err TooDeep) ⊎ (answer ≡ Err TooLong)
 large_body (Ok body) h = absurd (cc)
 large_body (Err NotJson) h = absurd (cc)
 large_body (Err NotWhole) h = absurd (cc)
@@ -262,7 +262,7 @@ large_body (Err TooDeep) h = inl refl
 large_body (Err TooLong) h = inr refl
 large_body (Err NoMemory) h = absurd (cc)
 
-of_body : (before : List Form) (f : Form) (answer : Result (List ℕ) BodyError) → body_of f ≡ Some answer → is_small answer ≡ false → IsTooLarge before f
+of_body : (before : List Form) (f : Form) (answer : Result (List ℕ) BodyError) → body_of f ≡ Some answer → is_body_within_limits answer ≡ false → IsTooLarge before f
 of_body before f answer is h = elim (large_body answer h) [
   | inl e ↦ IsTooLarge.depth (is ∙ ap (λ a. Some a) e)
   | inr e ↦ IsTooLarge.size (is ∙ ap (λ a. Some a) e)
@@ -282,7 +282,7 @@ too_large before k (form.Action at x) s h = elim (and_cases (nat_le (length (tra
 ]
 too_large before k f s h = absurd (cc)
 
-small_answer : (answer : Result (List ℕ) BodyError) → is_small answer ≡ true → (¬ (Some answer ≡ Some (Err TooDeep))) × (¬ (Some answer ≡ Some (Err TooLong)))
+small_answer : (answer : Result (List ℕ) BodyError) → is_body_within_limits answer ≡ true → (¬ (Some answer ≡ Some (Err TooDeep))) × (¬ (Some answer ≡ Some (Err TooLong)))
 small_answer (Ok body) h = ((λ e. cc), λ e. cc)
 small_answer (Err NotJson) h = ((λ e. cc), λ e. cc)
 small_answer (Err NotWhole) h = ((λ e. cc), λ e. cc)
@@ -339,22 +339,22 @@ placed_so before at x starts event own hands (IsMisplaced.own_queue h) = own h
 placed_so before at x starts event own hands (IsMisplaced.handed_again a h g) = hands a h g
 
 -- an own queue that may be started
-may_start : (before : List Form) (k : Known) (at a : ℕ) → Stands before k → may_start_queue k at ≡ true → at ≡ a → (¬ (slice_get (agent_kinds before) a ≡ Some Worker)) × (¬ HasHanded before a)
+may_start : (before : List Form) (k : Known) (at a : ℕ) → Stands before k → agent_may_start_queue k at ≡ true → at ≡ a → (¬ (slice_get (agent_kinds before) a ≡ Some Worker)) × (¬ HasHanded before a)
 may_start before k at a s h is =
     let both : (is_agent k Worker at ≡ false) × (k.handed at ≡ false) = or_parts (is_agent k Worker at) (k.handed at) (not-true (is_agent k Worker at || k.handed at) h) in
     subst (λ b. (¬ (slice_get (agent_kinds before) b ≡ Some Worker)) × (¬ HasHanded before b)) is
     (not_from_Decides (is_agent k Worker at) (kind_decides before k Worker at s) both.0, not_from_Decides (k.handed at) (s.handed at) both.1)
 
-may_not_start : (before : List Form) (k : Known) (at : ℕ) (f : Form) → Stands before k → may_start_queue k at ≡ false → StartsQueue f at → IsMisplaced before f
+may_not_start : (before : List Form) (k : Known) (at : ℕ) (f : Form) → Stands before k → agent_may_start_queue k at ≡ false → StartsQueue f at → IsMisplaced before f
 may_not_start before k at f s h starts = elim (or_cases (is_agent k Worker at) (k.handed at) (not-false (is_agent k Worker at || k.handed at) h)) [
   | inl e ↦ IsMisplaced.queue_of_worker at starts ((kind_decides before k Worker at s).0 e)
   | inr e ↦ IsMisplaced.queue_handed at starts ((s.handed at).0 e)
 ]
 
 timely : (before : List Form) (k : Known) (at : ℕ) (x : ActionForm) → Stands before k → is_timely k at x ≡ true → ¬ IsMisplaced before (form.Action at x)
-timely before k at (Start n) s h = placed_so before at (Start n) (λ a g. starts a g (or_cases (not (bytes_eq n (codes "queue"))) (may_start_queue k at) h)) (λ a g. absurd g) (λ g. g) (λ a g. absurd g)
+timely before k at (Start n) s h = placed_so before at (Start n) (λ a g. starts a g (or_cases (not (bytes_eq n (codes "queue"))) (agent_may_start_queue k at) h)) (λ a g. absurd g) (λ g. g) (λ a g. absurd g)
   where
-    starts : (a : ℕ) → StartsQueue (form.Action at (Start n)) a → (not (bytes_eq n (codes "queue")) ≡ true) ⊎ (may_start_queue k at ≡ true) → (¬ (slice_get (agent_kinds before) a ≡ Some Worker)) × (¬ HasHanded before a)
+    starts : (a : ℕ) → StartsQueue (form.Action at (Start n)) a → (not (bytes_eq n (codes "queue")) ≡ true) ⊎ (agent_may_start_queue k at ≡ true) → (¬ (slice_get (agent_kinds before) a ≡ Some Worker)) × (¬ HasHanded before a)
     starts a g (inl e) = absurd (not_from_Decides (bytes_eq n (codes "queue")) (bytes_decides n (codes "queue")) (not-true (bytes_eq n (codes "queue")) e) g.1)
     starts a g (inr e) = may_start before k at a s e g.0
 timely before k at Loaded s h = placed_so before at Loaded (λ a g. may_start before k at a s h g) (λ a g. absurd g) (λ g. g) (λ a g. absurd g)
@@ -370,7 +370,7 @@ timely before k at x s h = placed_so before at x (λ a g. absurd g) (λ a g. abs
 
 untimely : (before : List Form) (k : Known) (at : ℕ) (x : ActionForm) → Stands before k → is_timely k at x ≡ false → IsMisplaced before (form.Action at x)
 untimely before k at (Start n) s h =
-    let both : (not (bytes_eq n (codes "queue")) ≡ false) × (may_start_queue k at ≡ false) = or_parts (not (bytes_eq n (codes "queue"))) (may_start_queue k at) h in
+    let both : (not (bytes_eq n (codes "queue")) ≡ false) × (agent_may_start_queue k at ≡ false) = or_parts (not (bytes_eq n (codes "queue"))) (agent_may_start_queue k at) h in
     may_not_start before k at (form.Action at (Start n)) s both.1 (refl, (bytes_decides n (codes "queue")).0 (not-false (bytes_eq n (codes "queue")) both.0))
 untimely before k at Loaded s h = may_not_start before k at (form.Action at Loaded) s h refl
 untimely before k at (LifeEvent e) s h = IsMisplaced.event_of_window at refl ((kind_decides before k Window at s).0 (not-false (is_agent k Window at) h))

@@ -38,8 +38,8 @@ has_no_action [] = true
 has_no_action (x ∷ xs) = false
 
 -- the agent of that number is declared
-abbrev pub has_agent : Known → ℕ → Bool
-has_agent k at = nat_lt at (length (declared_agents k.script))
+abbrev pub has_agent_of_number : Known → ℕ → Bool
+has_agent_of_number k at = nat_lt at (length (declared_agents k.script))
 
 abbrev pub is_kind : AgentKind → AgentKind → Bool
 is_kind Window Window = true
@@ -95,13 +95,13 @@ has_twice (n ∷ names) = stands_in n names || has_twice names
 -- ---- the tests
 
 -- a worker's queue is started by itself, and one that was handed on is another agent's
-abbrev pub may_start_queue : Known → ℕ → Bool
-may_start_queue k at = not (is_agent k Worker at || k.handed at)
+abbrev pub agent_may_start_queue : Known → ℕ → Bool
+agent_may_start_queue k at = not (is_agent k Worker at || k.handed at)
 
 -- an action fits what its agent is and has done
 abbrev pub is_timely : Known → ℕ → ActionForm → Bool
-is_timely k at (Start name) = not (bytes_eq name (codes "queue")) || may_start_queue k at
-is_timely k at Loaded = may_start_queue k at
+is_timely k at (Start name) = not (bytes_eq name (codes "queue")) || agent_may_start_queue k at
+is_timely k at Loaded = agent_may_start_queue k at
 is_timely k at (LifeEvent event) = not (is_agent k Window at)
 is_timely k at (Hand to) = not (at == to) && not (k.handed at)
 is_timely k at (Fetch from) = not (at == from)
@@ -116,7 +116,7 @@ is_placed k (form.Action at x) = is_timely k at x
 
 -- agents and names are declared, are of the kind that is meant, and are held where they are used
 abbrev pub are_known : Known → Form → Bool
-are_known k f = list_all (has_agent k) (agents_named f) && (list_all (is_port k) (ports_named f) && (list_all (is_member k) (members_named f) && list_all (λ used. holds_named k used.0 used.1) (names_used f)))
+are_known k f = list_all (has_agent_of_number k) (agents_named f) && (list_all (is_port k) (ports_named f) && (list_all (is_member k) (members_named f) && list_all (λ used. holds_named k used.0 used.1) (names_used f)))
 
 -- the port that posts is in its own list
 abbrev pub lists_source : Form → Bool
@@ -129,18 +129,18 @@ holds_list k (form.Action at x) = list_all (holds_named k at) (transferred x)
 holds_list k f = true
 
 -- a body that isn't nested too deep or too long
-abbrev pub is_small : Result (List ℕ) BodyError → Bool
-is_small (Ok body) = true
-is_small (Err NotJson) = true
-is_small (Err NotWhole) = true
-is_small (Err TooDeep) = false
-is_small (Err TooLong) = false
-is_small (Err NoMemory) = true
+abbrev pub is_body_within_limits : Result (List ℕ) BodyError → Bool
+is_body_within_limits (Ok body) = true
+is_body_within_limits (Err NotJson) = true
+is_body_within_limits (Err NotWhole) = true
+is_body_within_limits (Err TooDeep) = false
+is_body_within_limits (Err TooLong) = false
+is_body_within_limits (Err NoMemory) = true
 
 abbrev pub has_small_body : ActionForm → Bool
-has_small_body (Post port body transfer) = is_small body
-has_small_body (Send to body transfer) = is_small body
-has_small_body (Cast member body) = is_small body
+has_small_body (Post port body transfer) = is_body_within_limits body
+has_small_body (Send to body transfer) = is_body_within_limits body
+has_small_body (Cast member body) = is_body_within_limits body
 has_small_body x = true
 
 -- agents, listed ports and bodies are within their limits
@@ -178,16 +178,16 @@ run (t ∷ ts) = require t.0 t.1 >>= λ _. run ts
 
 -- the agent of that number, where it is declared
 abbrev pub agent_of : Known → ℕ → ScriptRead AgentId
-agent_of k at = if has_agent k at then Ok (record { 0 = at }) else Err UnknownName
+agent_of k at = if has_agent_of_number k at then Ok (record { 0 = at }) else Err UnknownName
 
 -- the port or member of that name
-abbrev pub named_end : Known → List ℕ → ScriptRead NamedEnd
-named_end k n = some_or UnknownName (k.names n)
+abbrev pub declared_end_of_name : Known → List ℕ → ScriptRead NamedEnd
+declared_end_of_name k n = some_or UnknownName (k.names n)
 
 -- what names name, behind other ends
 abbrev pub declared_ends : Known → List NamedEnd → List (List ℕ) → ScriptRead (List NamedEnd)
 declared_ends k ends [] = Ok ends
-declared_ends k ends (n ∷ names) = named_end k n >>= λ x. declared_ends k (ends ++ x ∷ []) names
+declared_ends k ends (n ∷ names) = declared_end_of_name k n >>= λ x. declared_ends k (ends ++ x ∷ []) names
 
 -- a body or a URL that is one
 abbrev pub value_or : {E : Type 0} → Result (List ℕ) E → ScriptRead (List ℕ)
@@ -220,7 +220,7 @@ transferring k a ports kind = Ok (with_holds (acting k a kind) (giving_all a por
 -- a post at a port
 unfoldable pub posting : Known → AgentId → List ℕ → Result (List ℕ) BodyError → List (List ℕ) → ScriptRead Known
 posting k a n answer names = do
-  port ← named_end k n
+  port ← declared_end_of_name k n
   ports ← declared_ends k [] names
   body ← value_or answer
   transferring k a ports (action.Post (declared_end k.script port) body (map (declared_end k.script) ports))
@@ -235,13 +235,13 @@ sending k a to answer names = do
 
 unfoldable pub casting : Known → AgentId → List ℕ → Result (List ℕ) BodyError → ScriptRead Known
 casting k a n answer = do
-  member ← named_end k n
+  member ← declared_end_of_name k n
   body ← value_or answer
   Ok (acting k a (action.Cast (declared_end k.script member) body))
 
 -- what the agent starts: its own queue, or a port
 abbrev pub started_end : Known → AgentId → List ℕ → ScriptRead EndId
-started_end k a n = if bytes_eq n (codes "queue") then Ok (queue_of a) else (named_end k n >>= λ port. Ok (declared_end k.script port))
+started_end k a n = if bytes_eq n (codes "queue") then Ok (queue_of a) else (declared_end_of_name k n >>= λ port. Ok (declared_end k.script port))
 
 -- what is known after the action of the agent. What it closes it doesn't hold any more, and what it receives it
 -- holds, whoever held it before
@@ -251,9 +251,9 @@ adding_action k a (Send to answer names) = sending k a to answer names
 adding_action k a (Cast n answer) = casting k a n answer
 adding_action k a (Start n) = started_end k a n >>= λ end. Ok (acting k a (action.Start end))
 adding_action k a Loaded = Ok (acting k a (action.Loaded (queue_of a)))
-adding_action k a (Close n) = named_end k n >>= λ end. Ok (with_holds (acting k a (action.Close (declared_end k.script end))) (giving (holding a end)))
+adding_action k a (Close n) = declared_end_of_name k n >>= λ end. Ok (with_holds (acting k a (action.Close (declared_end k.script end))) (giving (holding a end)))
 adding_action k a (Wait messages) = Ok (acting k a (action.Wait messages))
-adding_action k a (Receive n) = named_end k n >>= λ port. Ok (with_holds (acting k a (action.Receive (declared_end k.script port))) (taking_more (holding a port)))
+adding_action k a (Receive n) = declared_end_of_name k n >>= λ port. Ok (with_holds (acting k a (action.Receive (declared_end k.script port))) (taking_more (holding a port)))
 adding_action k a (Order to) = agent_of k to >>= λ b. Ok (acting k a (action.Order b))
 adding_action k a (LifeEvent event) = Ok (acting k a (action.Event event))
 adding_action k a (Hand to) = agent_of k to >>= λ b. Ok (with_handed (acting k a (action.Hand b)) a.0)

@@ -10,21 +10,21 @@ use Rattle.serde_json.specs.Read.{max_depth, number_of}
 
 -- each number in the value is in range
 abbrev mutual
-  pub is_in_range : json.Json → Bool
-  is_in_range json.null = true
-  is_in_range (json.boolean b) = true
-  is_in_range (json.number s) = is_some (number_of s)
-  is_in_range (json.string s) = true
-  is_in_range (json.array js) = items_in_range js
-  is_in_range (json.object ms) = members_in_range ms
+  pub are_numbers_in_range : json.Json → Bool
+  are_numbers_in_range json.null = true
+  are_numbers_in_range (json.boolean b) = true
+  are_numbers_in_range (json.number s) = is_some (number_of s)
+  are_numbers_in_range (json.string s) = true
+  are_numbers_in_range (json.array js) = items_in_range js
+  are_numbers_in_range (json.object ms) = members_in_range ms
 
   pub items_in_range : json.Items → Bool
   items_in_range json.no_items = true
-  items_in_range (json.item j js) = is_in_range j && items_in_range js
+  items_in_range (json.item j js) = are_numbers_in_range j && items_in_range js
 
   pub members_in_range : json.Members → Bool
   members_in_range json.no_members = true
-  members_in_range (json.member k j ms) = is_in_range j && members_in_range ms
+  members_in_range (json.member k j ms) = are_numbers_in_range j && members_in_range ms
 
 -- the data of a value; a number out of range, which no line has that is read, is an integer below 0 that JSON can't write
 abbrev mutual
@@ -62,5 +62,5 @@ json_in text = option_and_then (λ p. json.if_last p.0 p.1) (json.value max_dept
 -- what is written of the value reads as its data
 pub record IsWritable (j : json.Json) : Type 0 where
   pub numbers : tree.HasNumbers j
-  pub in_range : is_in_range j ≡ true
+  pub in_range : are_numbers_in_range j ≡ true
   pub nests : tree.depth j ≤ max_depth

@@ -56,7 +56,7 @@ impl ScriptReader {
             Form::Channel { first, second, at } => self.add_channel(alloc, first, second, at),
             Form::Member { name, at, on } => self.add_member(alloc, name, at, on),
             Form::Action { at, action } => {
-                let agent = self.declared_agent(at)?;
+                let agent = self.agent_of_number(at)?;
                 self.add_action(alloc, agent, action)
             }
         }
@@ -88,10 +88,10 @@ impl ScriptReader {
         requires { has_room (known self.old) ≡ true }
         ensures { ReadsTo self.new result (adding_channel (known self.old) first second at) }
     {
-        let at = self.declared_agent(at)?;
+        let at = self.agent_of_number(at)?;
         let (port, other) = self.next_channel_ports();
-        self.declare(alloc, &first, port, at)?;
-        self.declare(alloc, &second, other, at)?;
+        self.declare_held_name(alloc, &first, port, at)?;
+        self.declare_held_name(alloc, &second, other, at)?;
         self.push_channel(DeclaredChannel { at, first, second })
     }
 
@@ -106,9 +106,9 @@ impl ScriptReader {
         requires { has_room (known self.old) ≡ true }
         ensures { ReadsTo self.new result (adding_member (known self.old) name at on) }
     {
-        let at = self.declared_agent(at)?;
+        let at = self.agent_of_number(at)?;
         let member = self.next_member();
-        self.declare(alloc, &name, member, at)?;
+        self.declare_held_name(alloc, &name, member, at)?;
         self.push_member(DeclaredMember { at, name, on })
     }
 
@@ -141,17 +141,17 @@ impl ScriptReader {
             ActionForm::Wait { messages } => self.push_action(agent, ActionKind::Wait { messages }),
             ActionForm::Receive { port } => self.add_receive(agent, &port),
             ActionForm::Order { to } => {
-                let to = self.declared_agent(to)?;
+                let to = self.agent_of_number(to)?;
                 self.push_action(agent, ActionKind::Order { to })
             }
             ActionForm::Event { event } => self.push_action(agent, ActionKind::Event { event }),
             ActionForm::Hand { to } => {
-                let to = self.declared_agent(to)?;
+                let to = self.agent_of_number(to)?;
                 self.push_action(agent, ActionKind::Hand { to })?;
                 self.mark_queue_handed_over(agent)
             }
             ActionForm::Fetch { from } => {
-                let queue = queue_of_agent(self.declared_agent(from)?);
+                let queue = queue_of_agent(self.agent_of_number(from)?);
                 self.push_action(agent, ActionKind::Fetch { queue })
             }
         }
@@ -171,7 +171,7 @@ impl ScriptReader {
         ensures { ReadsTo self.new result
             (posting (known self.old) agent port.now body transfer.now) }
     {
-        let source = self.named_end(port)?;
+        let source = self.declared_end_of_name(port)?;
         let ports = self.ends_named(alloc, transfer)?;
         let body = body_or_syntax_error(body)?;
         let transfer = self.port_ids_of(alloc, ports.as_slice())?;
@@ -201,7 +201,7 @@ impl ScriptReader {
         requires few { length transfer.now ≤ MAX_PORTS }
         ensures { ReadsTo self.new result (sending (known self.old) agent to body transfer.now) }
     {
-        let queue = queue_of_agent(self.declared_agent(to)?);
+        let queue = queue_of_agent(self.agent_of_number(to)?);
         let ports = self.ends_named(alloc, transfer)?;
         let body = body_or_syntax_error(body)?;
         let transfer = self.port_ids_of(alloc, ports.as_slice())?;
@@ -227,7 +227,7 @@ impl ScriptReader {
         requires { has_room (known self.old) ≡ true }
         ensures { ReadsTo self.new result (casting (known self.old) agent member.now body) }
     {
-        let named = self.named_end(member)?;
+        let named = self.declared_end_of_name(member)?;
         let body = body_or_syntax_error(body)?;
         let member = self.end_id_of(named);
         self.push_action(agent, ActionKind::Cast { member, body })
@@ -249,7 +249,7 @@ impl ScriptReader {
         if name.as_str() == QUEUE {
             Ok(queue_of_agent(agent))
         } else {
-            Ok(self.end_id_of(self.named_end(name)?))
+            Ok(self.end_id_of(self.declared_end_of_name(name)?))
         }
     }
 
@@ -258,7 +258,7 @@ impl ScriptReader {
         ensures { ReadsTo self.new result
             (adding_action (known self.old) agent (ActionForm.Close name.now)) }
     {
-        let named = self.named_end(name)?;
+        let named = self.declared_end_of_name(name)?;
         let end = self.end_id_of(named);
         self.push_action(agent, ActionKind::Close { end })?;
         self.mark_released(agent, named);
@@ -270,7 +270,7 @@ impl ScriptReader {
         ensures { ReadsTo self.new result
             (adding_action (known self.old) agent (ActionForm.Receive name.now)) }
     {
-        let named = self.named_end(name)?;
+        let named = self.declared_end_of_name(name)?;
         let port = self.end_id_of(named);
         self.push_action(agent, ActionKind::Receive { port })?;
         self.mark_held(agent, named)

@@ -56,7 +56,7 @@ impl ScriptError {
 
     /// The name of what is wrong with a text line. `None` where memory ran out, which says nothing
     /// of the text.
-    pub fn kind(self) -> Option<&'static str>
+    pub fn printed_kind(self) -> Option<&'static str>
         ensures { option_map (λ name. name.now) result ≡ script_kind_text self }
     {
         match self {

@@ -110,11 +110,11 @@ pub(crate) fn body_in(
 {
     let value = value_of_field(line, name)?;
     let bytes = to_vec(alloc, value)?;
-    read_body(alloc, str::from_utf8(&bytes).unwrap())
+    parse_body(alloc, str::from_utf8(&bytes).unwrap())
 }
 
 /// What `Body::read` answers, unless memory runs out.
-fn read_body(alloc: Global, text: &str) -> Result<Result<Body, BodyError>, ScriptError>
+fn parse_body(alloc: Global, text: &str) -> Result<Result<Body, BodyError>, ScriptError>
     ensures { IsRead result (Ok (answer_of text.now)) }
 {
     match Body::read(alloc, text) {

@@ -22,4 +22,6 @@ mod values;
 pub use action::{Action, ActionKind};
 pub use error::{DataCloneCause, ScriptError};
 pub use hub_envelope::OutOfMemory;
-pub use script::{AgentKind, DeclaredAgent, DeclaredChannel, DeclaredMember, Script, script_laws};
+pub use script::{
+    AgentKind, DeclaredAgent, DeclaredChannel, DeclaredMember, Script, prove_script_reading_rules,
+};

@@ -14,9 +14,9 @@ pub(crate) fn number_of(text: &str) -> Option<Number>
 {
     let bytes = text.as_bytes();
     if has_minus(bytes) {
-        parse_negative(&Numeral::scan(&bytes[1..]))
+        negative_number_of_numeral(&Numeral::scan(&bytes[1..]))
     } else {
-        parse_unsigned(&Numeral::scan(bytes))
+        unsigned_number_of_numeral(&Numeral::scan(bytes))
     }
 }
 
@@ -27,7 +27,7 @@ fn has_minus(bytes: &[u8]) -> bool
     !bytes.is_empty() && bytes[0] == b'-'
 }
 
-fn parse_unsigned(numeral: &Numeral<'_>) -> Option<Number>
+fn unsigned_number_of_numeral(numeral: &Numeral<'_>) -> Option<Number>
     ensures { option_map number_view result ≡ number_from false numeral.now }
 {
     match numeral.to_u64() {
@@ -37,7 +37,7 @@ fn parse_unsigned(numeral: &Numeral<'_>) -> Option<Number>
 }
 
 /// The number behind a minus.
-fn parse_negative(numeral: &Numeral<'_>) -> Option<Number>
+fn negative_number_of_numeral(numeral: &Numeral<'_>) -> Option<Number>
     ensures { option_map number_view result ≡ number_from true numeral.now }
 {
     match numeral.to_i64(true) {

@@ -20,7 +20,7 @@ use crate::fields::{
 };
 use crate::form::{ActionForm, Form};
 use crate::keyword::Keyword;
-use crate::values::{is_in_range, is_object};
+use crate::values::{are_numbers_in_range, is_object};
 use json::{Error, Reader, Scratch, Value};
 use std::alloc::Global;
 
@@ -51,7 +51,7 @@ fn parse_form(alloc: Global, scratch: &mut Scratch, text: &str) -> Result<Form, 
     ensures { IsRead result (form_in_text text.now) }
 {
     let line = object_in(alloc, scratch, text)?;
-    let Some(keyword) = Keyword::of(&line) else {
+    let Some(keyword) = Keyword::of_object(&line) else {
         return Err(ScriptError::UnknownAction);
     };
     read_form_with_known_fields(alloc, keyword, &line)
@@ -85,7 +85,7 @@ fn read_value_in_range<'a>(
     ensures writable { IfOk result (λ value. IsWritable (value_view value)) }
 {
     let value = json_in(alloc, scratch, text)?;
-    if is_in_range(&value) {
+    if are_numbers_in_range(&value) {
         Ok(value)
     } else {
         Err(ScriptError::Syntax)
@@ -150,39 +150,39 @@ fn read_form_of_keyword(
         Keyword::Cast => read_cast_form(alloc, line),
         Keyword::Start => {
             let name = text_in(alloc, line, "start")?;
-            read_action_form(line, ActionForm::Start { name })
+            read_agent_into_action_form(line, ActionForm::Start { name })
         }
         Keyword::Loaded => {
             require_queue_word(line, "loaded")?;
-            read_action_form(line, ActionForm::Loaded)
+            read_agent_into_action_form(line, ActionForm::Loaded)
         }
         Keyword::Close => {
             let name = text_in(alloc, line, "close")?;
-            read_action_form(line, ActionForm::Close { name })
+            read_agent_into_action_form(line, ActionForm::Close { name })
         }
         Keyword::Wait => {
             let messages = number_in(line, "wait")?;
-            read_action_form(line, ActionForm::Wait { messages })
+            read_agent_into_action_form(line, ActionForm::Wait { messages })
         }
         Keyword::Receive => {
             let port = text_in(alloc, line, "receive")?;
-            read_action_form(line, ActionForm::Receive { port })
+            read_agent_into_action_form(line, ActionForm::Receive { port })
         }
         Keyword::Order => {
             let to = number_in(line, "order")?;
-            read_action_form(line, ActionForm::Order { to })
+            read_agent_into_action_form(line, ActionForm::Order { to })
         }
         Keyword::Event => {
             let event = event_in(line, "event")?;
-            read_action_form(line, ActionForm::Event { event })
+            read_agent_into_action_form(line, ActionForm::Event { event })
         }
         Keyword::Hand => {
             let to = number_in(line, "hand")?;
-            read_action_form(line, ActionForm::Hand { to })
+            read_agent_into_action_form(line, ActionForm::Hand { to })
         }
         Keyword::Fetch => {
             let from = number_in(line, "fetch")?;
-            read_action_form(line, ActionForm::Fetch { from })
+            read_agent_into_action_form(line, ActionForm::Fetch { from })
         }
     }
 }
@@ -210,7 +210,7 @@ fn are_fields_of(keyword: Keyword, fields: &[(&str, Value<'_>)]) -> bool
 }
 
 /// The action of the agent that the field `at` names.
-fn read_action_form(line: &Value<'_>, action: ActionForm) -> Result<Form, ScriptError>
+fn read_agent_into_action_form(line: &Value<'_>, action: ActionForm) -> Result<Form, ScriptError>
     ensures { IsRead result (fields_in ((codes "at", NUMBER) ∷ []) (λ at. Form.Action at action)
         (data_in line.now)) }
 {
@@ -250,7 +250,7 @@ fn read_post_form(alloc: Global, line: &Value<'_>) -> Result<Form, ScriptError>
     let port = text_in(alloc, line, "post")?;
     let body = body_in(alloc, line, "body")?;
     let transfer = text_list_in(alloc, line, "transfer")?;
-    read_action_form(
+    read_agent_into_action_form(
         line,
         ActionForm::Post {
             port,
@@ -267,7 +267,7 @@ fn read_send_form(alloc: Global, line: &Value<'_>) -> Result<Form, ScriptError>
     let to = number_in(line, "send")?;
     let body = body_in(alloc, line, "body")?;
     let transfer = text_list_in(alloc, line, "transfer")?;
-    read_action_form(line, ActionForm::Send { to, body, transfer })
+    read_agent_into_action_form(line, ActionForm::Send { to, body, transfer })
 }
 
 fn read_cast_form(alloc: Global, line: &Value<'_>) -> Result<Form, ScriptError>
@@ -276,5 +276,5 @@ fn read_cast_form(alloc: Global, line: &Value<'_>) -> Result<Form, ScriptError>
 {
     let member = text_in(alloc, line, "cast")?;
     let body = body_in(alloc, line, "body")?;
-    read_action_form(line, ActionForm::Cast { member, body })
+    read_agent_into_action_form(line, ActionForm::Cast { member, body })
 }

@@ -2,10 +2,10 @@ ghost use Rattle.std.specs.Prelude.{◌≡◌, ◌<◌, ◌≤◌, [], length, m
 ghost use Rattle.hub_text.specs.Reading.{IsReadAs};
 ghost use Rattle.hub_script.specs.Contents.{actions, declared_agents, with_channel, with_declared};
 ghost use Rattle.hub_script.specs.Contents.{with_member};
-ghost use Rattle.hub_script.specs.Context.{acting, agent_of, declared_ends, has_agent};
+ghost use Rattle.hub_script.specs.Context.{acting, agent_of, declared_ends, has_agent_of_number};
 ghost use Rattle.hub_script.specs.Context.{has_no_action, has_room, is_agent, is_unused};
 ghost use Rattle.hub_script.specs.Context.{holds_named, is_member};
-ghost use Rattle.hub_script.specs.Context.{is_port, named_end};
+ghost use Rattle.hub_script.specs.Context.{is_port, declared_end_of_name};
 ghost use Rattle.hub_script.specs.Fields.{IsRead};
 ghost use Rattle.hub_script.specs.Known.{declaring, declared_end, giving, giving_all, holding};
 ghost use Rattle.hub_script.specs.Known.{naming_more, next_member, next_port, nothing, queue_of};
@@ -126,14 +126,14 @@ impl ScriptReader {
         name.as_str() != QUEUE && !self.names.contains_key(name.as_str())
     }
 
-    pub(crate) fn has_agent(&self, number: u32) -> bool
-        ensures { result ≡ has_agent (known self.now) number }
+    pub(crate) fn has_agent_of_number(&self, number: u32) -> bool
+        ensures { result ≡ has_agent_of_number (known self.now) number }
     {
         (number as usize) < self.script.agents().len()
     }
 
     /// The declared agent of that number.
-    pub(crate) fn declared_agent(&self, number: u32) -> Result<AgentId, ScriptError>
+    pub(crate) fn agent_of_number(&self, number: u32) -> Result<AgentId, ScriptError>
         ensures { IsRead result (agent_of (known self.now) number) }
     {
         if (number as usize) < self.script.agents().len() {
@@ -161,8 +161,8 @@ impl ScriptReader {
     }
 
     /// What the name names, where it is declared.
-    pub(crate) fn named_end(&self, name: &Text) -> Result<NamedEnd, ScriptError>
-        ensures { IsRead result (named_end (known self.now) name.now) }
+    pub(crate) fn declared_end_of_name(&self, name: &Text) -> Result<NamedEnd, ScriptError>
+        ensures { IsRead result (declared_end_of_name (known self.now) name.now) }
     {
         match self.look_up(name) {
             Some(named) => Ok(named),
@@ -170,7 +170,7 @@ impl ScriptReader {
         }
     }
 
-    pub(crate) fn is_port(&self, name: &Text) -> bool
+    pub(crate) fn is_name_of_port(&self, name: &Text) -> bool
         ensures { result ≡ is_port (known self.now) name.now }
     {
         match self.look_up(name) {
@@ -179,7 +179,7 @@ impl ScriptReader {
         }
     }
 
-    pub(crate) fn is_member(&self, name: &Text) -> bool
+    pub(crate) fn is_name_of_member(&self, name: &Text) -> bool
         ensures { result ≡ is_member (known self.now) name.now }
     {
         match self.look_up(name) {
@@ -213,7 +213,7 @@ impl ScriptReader {
     {
         let mut ends = Vec::new(alloc);
         for name in names.as_slice() {
-            ends.push(self.named_end(name)?)?;
+            ends.push(self.declared_end_of_name(name)?)?;
         }
         Ok(ends)
     }
@@ -239,7 +239,7 @@ impl ScriptReader {
         ensures { IsRead result (Ok (map (declared_end (known self.now).script) ports.now)) }
     {
         let ends = self.end_ids_of(alloc, ports)?;
-        Ok(Ports::of_list(ends).unwrap())
+        Ok(Ports::try_from_vec(ends).unwrap())
     }
 
     fn end_ids_of(&self, alloc: Global, ports: &[NamedEnd]) -> Result<Vec<EndId>, OutOfMemory>
@@ -253,7 +253,7 @@ impl ScriptReader {
     }
 
     /// Whether the agent of that number has handed its queue on.
-    pub(crate) fn has_handed_queue_over(&self, number: u32) -> bool
+    pub(crate) fn has_agent_handed_queue_over(&self, number: u32) -> bool
         ensures { result ≡ (known self.now).handed number }
     {
         self.handed.contains(&number)
@@ -365,7 +365,7 @@ impl ScriptReader {
     }
 
     /// Declares a name of that agent.
-    pub(crate) fn declare(
+    pub(crate) fn declare_held_name(
         &mut self,
         alloc: Global,
         name: &Text,

@@ -3,9 +3,9 @@
 
 ghost use Rattle.std.specs.Prelude.{◌≡◌, true, OnOk};
 ghost use Rattle.std.specs.List.{list_all};
-ghost use Rattle.hub_script.specs.Context.{are_known, has_agent, has_room, has_twice, holds_list};
-ghost use Rattle.hub_script.specs.Context.{holds_named, is_member, is_placed, is_port, is_small};
-ghost use Rattle.hub_script.specs.Context.{is_timely, is_within, lists_source, may_start_queue};
+ghost use Rattle.hub_script.specs.Context.{are_known, has_agent_of_number, has_room, has_twice, holds_list};
+ghost use Rattle.hub_script.specs.Context.{holds_named, is_member, is_placed, is_port, is_body_within_limits};
+ghost use Rattle.hub_script.specs.Context.{is_timely, is_within, lists_source, agent_may_start_queue};
 ghost use Rattle.hub_script.specs.Context.{require, run, tests, stands_in};
 ghost use Rattle.hub_script.specs.Fields.{IsRead};
 ghost use Rattle.hub_script.specs.Uses.{agents_named, members_named, names_used, others_named};
@@ -26,8 +26,8 @@ fn require(condition: bool, error: ScriptError) -> Result<(), ScriptError>
 }
 
 /// A body that isn't nested too deep or too long.
-fn is_small(body: &Result<Body, BodyError>) -> bool
-    ensures { result ≡ is_small body.now }
+fn is_body_within_limits(body: &Result<Body, BodyError>) -> bool
+    ensures { result ≡ is_body_within_limits body.now }
 {
     !matches!(body, Err(BodyError::TooDeep | BodyError::TooLong))
 }
@@ -70,7 +70,10 @@ impl ScriptReader {
         ensures within { OnOk result (is_within (known self.now) form.now ≡ true) }
     {
         require(self.is_allowed_here(form), ScriptError::Syntax)?;
-        require(self.names_resolve(form), ScriptError::UnknownName)?;
+        require(
+            self.are_names_known_and_held(form),
+            ScriptError::UnknownName,
+        )?;
         require(
             !form.transfers_posting_port(),
             ScriptError::DataClone(DataCloneCause::Source),
@@ -84,7 +87,7 @@ impl ScriptReader {
             ScriptError::DataClone(DataCloneCause::Detached),
         )?;
         require(self.has_room_for_line(), ScriptError::TooLarge)?;
-        require(self.is_within_limits(form), ScriptError::TooLarge)
+        require(self.is_form_within_limits(form), ScriptError::TooLarge)
     }
 
     /// Declarations stand before all actions, and declare different names that are free. An action
@@ -109,59 +112,60 @@ impl ScriptReader {
         ensures { result ≡ is_timely (known self.now) at action.now }
     {
         match action {
-            ActionForm::Start { name } => name.as_str() != QUEUE || self.may_start_queue(at),
-            ActionForm::Loaded => self.may_start_queue(at),
+            ActionForm::Start { name } => name.as_str() != QUEUE || self.agent_may_start_queue(at),
+            ActionForm::Loaded => self.agent_may_start_queue(at),
             ActionForm::Event { .. } => !self.is_agent_of_kind(AgentKind::Window, at),
-            ActionForm::Hand { to } => at != *to && !self.has_handed_queue_over(at),
+            ActionForm::Hand { to } => at != *to && !self.has_agent_handed_queue_over(at),
             ActionForm::Fetch { from } => at != *from,
             _ => true,
         }
     }
 
     /// A worker's queue is started by itself, and one that was handed on is another agent's.
-    fn may_start_queue(&self, at: u32) -> bool
-        ensures { result ≡ may_start_queue (known self.now) at }
+    fn agent_may_start_queue(&self, at: u32) -> bool
+        ensures { result ≡ agent_may_start_queue (known self.now) at }
     {
-        !(self.is_agent_of_kind(AgentKind::Worker, at) || self.has_handed_queue_over(at))
+        !(self.is_agent_of_kind(AgentKind::Worker, at) || self.has_agent_handed_queue_over(at))
     }
 
     /// Agents and names are declared, are of the kind that is meant, and are held where they are
     /// used.
-    fn names_resolve(&self, form: &Form) -> bool
+    fn are_names_known_and_held(&self, form: &Form) -> bool
         ensures { result ≡ are_known (known self.now) form.now }
     {
-        self.names_declared_agents(form)
-            && self.are_ports(form)
-            && self.casts_from_member(form)
-            && self.holds_used_ends(form)
+        self.form_names_only_declared_agents(form)
+            && self.has_ports_where_required(form)
+            && self.form_casts_only_from_member(form)
+            && self.form_uses_only_held_ends(form)
     }
 
     #[tactic(auto, using(crate::proofs::Tests::and_true))]
-    fn names_declared_agents(&self, form: &Form) -> bool
-        ensures { result ≡ list_all (has_agent (known self.now)) (agents_named form.now) }
+    fn form_names_only_declared_agents(&self, form: &Form) -> bool
+        ensures { result ≡ list_all (has_agent_of_number (known self.now)) (agents_named form.now) }
     {
         match form {
             Form::Agent { .. } => true,
-            Form::Channel { at, .. } | Form::Member { at, .. } => self.has_agent(*at),
-            Form::Action { at, action } => self.has_agent(*at) && self.target_is_declared(action),
+            Form::Channel { at, .. } | Form::Member { at, .. } => self.has_agent_of_number(*at),
+            Form::Action { at, action } => self.has_agent_of_number(*at)
+                && self.is_agent_of_action_declared(action),
         }
     }
 
     #[tactic(auto, using(crate::proofs::Tests::and_true))]
-    fn target_is_declared(&self, action: &ActionForm) -> bool
-        ensures { result ≡ list_all (has_agent (known self.now)) (others_named action.now) }
+    fn is_agent_of_action_declared(&self, action: &ActionForm) -> bool
+        ensures { result ≡ list_all (has_agent_of_number (known self.now)) (others_named action.now) }
     {
         match action {
             ActionForm::Send { to, .. } | ActionForm::Order { to } | ActionForm::Hand { to } => {
-                self.has_agent(*to)
+                self.has_agent_of_number(*to)
             }
-            ActionForm::Fetch { from } => self.has_agent(*from),
+            ActionForm::Fetch { from } => self.has_agent_of_number(*from),
             _ => true,
         }
     }
 
     #[tactic(auto, using(crate::proofs::Tests::and_true))]
-    fn are_ports(&self, form: &Form) -> bool
+    fn has_ports_where_required(&self, form: &Form) -> bool
         ensures { result ≡ list_all (is_port (known self.now)) (ports_named form.now) }
     {
         let Form::Action { action, .. } = form else {
@@ -169,36 +173,39 @@ impl ScriptReader {
         };
         match action {
             ActionForm::Post { port, transfer, .. } => {
-                self.is_port(port) && self.are_all_ports(transfer)
+                self.is_name_of_port(port) && self.are_all_names_of_ports(transfer)
             }
-            ActionForm::Send { transfer, .. } => self.are_all_ports(transfer),
-            ActionForm::Start { name } => name.as_str() == QUEUE || self.is_port(name),
-            ActionForm::Receive { port } => self.is_port(port),
+            ActionForm::Send { transfer, .. } => self.are_all_names_of_ports(transfer),
+            ActionForm::Start { name } => name.as_str() == QUEUE || self.is_name_of_port(name),
+            ActionForm::Receive { port } => self.is_name_of_port(port),
             _ => true,
         }
     }
 
-    fn are_all_ports(&self, names: &Items<Text>) -> bool
+    fn are_all_names_of_ports(&self, names: &Items<Text>) -> bool
         ensures { result ≡ list_all (is_port (known self.now)) names.now }
     {
-        names.as_slice().iter().all(|name| self.is_port(name))
+        names
+            .as_slice()
+            .iter()
+            .all(|name| self.is_name_of_port(name))
     }
 
     #[tactic(auto, using(crate::proofs::Tests::and_true))]
-    fn casts_from_member(&self, form: &Form) -> bool
+    fn form_casts_only_from_member(&self, form: &Form) -> bool
         ensures { result ≡ list_all (is_member (known self.now)) (members_named form.now) }
     {
         match form {
             Form::Action {
                 action: ActionForm::Cast { member, .. },
                 ..
-            } => self.is_member(member),
+            } => self.is_name_of_member(member),
             _ => true,
         }
     }
 
     #[tactic(auto, using(crate::proofs::Tests::and_true))]
-    fn holds_used_ends(&self, form: &Form) -> bool
+    fn form_uses_only_held_ends(&self, form: &Form) -> bool
         ensures { result
             ≡ list_all (λ used. holds_named (known self.now) used.0 used.1) (names_used form.now) }
     {
@@ -237,7 +244,7 @@ impl ScriptReader {
     }
 
     /// Agents, listed ports and bodies are within their limits.
-    fn is_within_limits(&self, form: &Form) -> bool
+    fn is_form_within_limits(&self, form: &Form) -> bool
         ensures { result ≡ is_within (known self.now) form.now }
     {
         match form {
@@ -246,11 +253,11 @@ impl ScriptReader {
                 action: ActionForm::Post { body, transfer, .. }
                 | ActionForm::Send { body, transfer, .. },
                 ..
-            } => transfer.as_slice().len() <= MAX_PORTS && is_small(body),
+            } => transfer.as_slice().len() <= MAX_PORTS && is_body_within_limits(body),
             Form::Action {
                 action: ActionForm::Cast { body, .. },
                 ..
-            } => is_small(body),
+            } => is_body_within_limits(body),
             _ => true,
         }
     }

@@ -3,7 +3,7 @@
 ghost use Rattle.std.specs.Prelude.{◌≡◌, IfSome, is_some, option_and_then, option_map};
 ghost use Rattle.json.specs.Value.{items_view, members_view, value_view};
 ghost use Rattle.serde_json.specs.Find.{as_array, as_number, as_object, as_str, as_u64, get};
-ghost use Rattle.hub_script.specs.JsonData.{IsWritable, data_in, is_in_range, items_in};
+ghost use Rattle.hub_script.specs.JsonData.{IsWritable, data_in, are_numbers_in_range, items_in};
 ghost use Rattle.hub_script.specs.JsonData.{items_in_range, members_in_range};
 
 use crate::number::number_of;
@@ -49,36 +49,36 @@ pub(crate) fn items_of<'v, 'a>(value: &'v Value<'a>) -> Option<&'v Vec<Value<'a>
 }
 
 /// Whether each number in the value is in range.
-#[cycle(is_in_range)]
-pub(crate) fn is_in_range(value: &Value<'_>) -> bool
-    ensures { result ≡ is_in_range (value_view value.now) }
+#[cycle(are_numbers_in_range)]
+pub(crate) fn are_numbers_in_range(value: &Value<'_>) -> bool
+    ensures { result ≡ are_numbers_in_range (value_view value.now) }
 {
     match value {
         Value::Null | Value::Bool(_) | Value::String(_) => true,
         Value::Number(text) => number_of(text).is_some(),
-        Value::Array(items) => items_all_in_range(items),
-        Value::Object(members) => members_all_in_range(members),
+        Value::Array(items) => are_item_numbers_in_range(items),
+        Value::Object(members) => are_member_numbers_in_range(members),
     }
 }
 
-#[cycle(is_in_range)]
-fn items_all_in_range(items: &[Value<'_>]) -> bool
+#[cycle(are_numbers_in_range)]
+fn are_item_numbers_in_range(items: &[Value<'_>]) -> bool
     ensures { result ≡ items_in_range (items_view items.now) }
 {
     for item in items {
-        if !is_in_range(item) {
+        if !are_numbers_in_range(item) {
             return false;
         }
     }
     true
 }
 
-#[cycle(is_in_range)]
-fn members_all_in_range(members: &[(&str, Value<'_>)]) -> bool
+#[cycle(are_numbers_in_range)]
+fn are_member_numbers_in_range(members: &[(&str, Value<'_>)]) -> bool
     ensures { result ≡ members_in_range (members_view members.now) }
 {
     for member in members {
-        if !is_in_range(&member.1) {
+        if !are_numbers_in_range(&member.1) {
             return false;
         }
     }

@@ -26,7 +26,7 @@ use Rattle.hub_steps.specs.declared.step_line.StepLine.{StepLine}
 use Rattle.hub_steps.specs.Computation.{Computation, MayGive, pair, pure, ask, ask_then, step, step_then, ◌>>=◌}
 use Rattle.hub_steps.specs.Performed.{ComputesAt, PerformsAt}
 use Rattle.hub_steps.specs.Lives.{AllLives}
-use Rattle.hub_steps.specs.Unfolding.{sender_of, over_line, on_line_of, enter, go_on, send_inside, send, post_listing, post_count, post_may, post, start_made, then_start, start_worker_queue, start_adopted, adopt, notice_line, tell_inside, tell, shown_closing, close_on, close, close_each, close_ports, close_swept, sweep, core_steps, cast_inside, line_zero, cast_over, cast_each, cast_all, cast}
+use Rattle.hub_steps.specs.Unfolding.{sender_of, over_line, on_line_of, enter, go_on, send_inside, send, post_listing, post_count, post_may, post, start_made, then_start, start_if_worker_queue, start_adopted, adopt, sender_of_closing_notice, tell_inside, tell, shown_by_closing_outcomes, close_on, close, close_each, close_ports, close_swept, sweep, core_steps, cast_inside, line_zero, cast_over, cast_each, cast_all, cast}
 use Rattle.hub_steps.specs.declared.shown.CastPost.{CastPost}
 
 -- ---- computations in general
@@ -197,15 +197,15 @@ doomed old new refused ports given_ports body s same did =
 
 -- ---- the closing of an end
 
-pub closed_on : (old first second new : Core) (refused : Bool) (e : EndId) (s : Sender) (told left answer : Outcome) → ((h : History) → Shows old h → Some s ≡ notice_line e (facts h)) → ComputesAt old first (tell refused s) told
-    → ComputesAt first second (step refused (action.Leave s)) left → ComputesAt second new (step refused (action.Close e)) answer → ComputesAt old new (close refused e) (shown_closing told answer)
+pub closed_on : (old first second new : Core) (refused : Bool) (e : EndId) (s : Sender) (told left answer : Outcome) → ((h : History) → Shows old h → Some s ≡ sender_of_closing_notice e (facts h)) → ComputesAt old first (tell refused s) told
+    → ComputesAt first second (step refused (action.Leave s)) left → ComputesAt second new (step refused (action.Close e)) answer → ComputesAt old new (close refused e) (shown_by_closing_outcomes told answer)
 closed_on old first second new refused e s told left answer is a b c =
-    let shown : Shown = shown_closing told answer in
-    let last : Outcome → Computation Shown = λ t. step refused (action.Close e) >>= λ k. pure (shown_closing t k) in
-    asked_then old new (notice_line e) (close_on refused e) (Some s) shown is
+    let shown : Shown = shown_by_closing_outcomes told answer in
+    let last : Outcome → Computation Shown = λ t. step refused (action.Close e) >>= λ k. pure (shown_by_closing_outcomes t k) in
+    asked_then old new (sender_of_closing_notice e) (close_on refused e) (Some s) shown is
     (chained old first new (tell refused s) (λ t. step refused (action.Leave s) >>= λ l. last t) told shown a
     (chained first second new (step refused (action.Leave s)) (λ l. last told) left shown b
-    (shown_as second new (step refused (action.Close e)) (shown_closing told) answer c)))
+    (shown_as second new (step refused (action.Close e)) (shown_by_closing_outcomes told) answer c)))
 
 pub told_in : (old first new : Core) (refused : Bool) (s : Sender) (o : Outcome) → ComputesAt old first (enter 4 refused s) outcome.In → ComputesAt first new (step refused (action.Notice s)) o → ComputesAt old new (tell refused s) o
 told_in old first new refused s o a b = chained old first new (enter 4 refused s) (tell_inside refused s) outcome.In o a b
@@ -252,10 +252,10 @@ made_and_started old first new refused a e o made did =
     chained old first new (step refused a) (start_made refused) (outcome.End e) (Answer (outcome.End e)) made
     (shown_as first new (step refused (action.Start e)) (λ started. Answer (outcome.End e)) o did)
 
-pub adopted_and_started : (old first new : Core) (refused : Bool) (e : EndId) (a : AgentId) (k : ℕ) → ComputesAt old first (step refused (action.Adopt e a)) (outcome.Adopted k) → ComputesAt first new (start_worker_queue refused e) tt → ComputesAt old new (adopt refused e a) (Answer (outcome.Adopted k))
+pub adopted_and_started : (old first new : Core) (refused : Bool) (e : EndId) (a : AgentId) (k : ℕ) → ComputesAt old first (step refused (action.Adopt e a)) (outcome.Adopted k) → ComputesAt first new (start_if_worker_queue refused e) tt → ComputesAt old new (adopt refused e a) (Answer (outcome.Adopted k))
 adopted_and_started old first new refused e a k adopted did =
     chained old first new (step refused (action.Adopt e a)) (start_adopted refused e) (outcome.Adopted k) (Answer (outcome.Adopted k)) adopted
-    (shown_as first new (start_worker_queue refused e) (λ started. Answer (outcome.Adopted k)) tt did)
+    (shown_as first new (start_if_worker_queue refused e) (λ started. Answer (outcome.Adopted k)) tt did)
 
 -- ---- casts
 

@@ -17,7 +17,7 @@ use Rattle.hub_steps.specs.StepLineKind.{step_kind_text}
 use Rattle.hub_steps.specs.Steps.{steps_from}
 use Rattle.hub_steps.specs.StepText.{IsStepText}
 use Rattle.hub_steps.specs.UnderWay.{AreRun}
-use Rattle.hub_steps.specs.Unfolding.{command_takes_memory, takes_one_step}
+use Rattle.hub_steps.specs.Unfolding.{command_takes_memory, takes_at_most_one_step}
 
 -- what a text line is answered with: the outcome line that is kept, or that of what is shown, or the name of a kind
 abbrev pub told_by : Last → List ℕ → List ℕ
@@ -67,7 +67,7 @@ TakesMemory bytes = (reads_memory bytes ≡ true) ⊎ ((line : StepLine) × (ste
 
 -- a step line of several steps, which take memory
 abbrev pub TakesMore : List ℕ → Type 0
-TakesMore bytes = (line : StepLine) × (step_line_of bytes ≡ Ok line) × (takes_one_step line.command ≡ false) × (command_takes_memory line.command ≡ true)
+TakesMore bytes = (line : StepLine) × (step_line_of bytes ≡ Ok line) × (takes_at_most_one_step line.command ≡ false) × (command_takes_memory line.command ≡ true)
 
 -- whether a session that answers this is lost
 abbrev pub is_lost_by : Reply → Bool

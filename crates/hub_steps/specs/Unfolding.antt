@@ -51,15 +51,15 @@ is_post (poster.Post ports body) = true
 is_post c = false
 
 -- the commands that take one step of the core, or none
-abbrev pub takes_one_step : Command → Bool
-takes_one_step (command.Worker a) = false
-takes_one_step (command.Member a name) = false
-takes_one_step (command.At p c) = not (is_post c)
-takes_one_step (command.Adopt e a) = false
-takes_one_step (command.Close e) = false
-takes_one_step (command.Sweep e) = false
-takes_one_step (command.Cast e ports body) = false
-takes_one_step c = true
+abbrev pub takes_at_most_one_step : Command → Bool
+takes_at_most_one_step (command.Worker a) = false
+takes_at_most_one_step (command.Member a name) = false
+takes_at_most_one_step (command.At p c) = not (is_post c)
+takes_at_most_one_step (command.Adopt e a) = false
+takes_at_most_one_step (command.Close e) = false
+takes_at_most_one_step (command.Sweep e) = false
+takes_at_most_one_step (command.Cast e ports body) = false
+takes_at_most_one_step c = true
 
 -- a step whose outcome is shown
 abbrev pub shown_step : Bool → Action → Computation Shown
@@ -101,8 +101,8 @@ enter (suc n) refused s = do
 -- ---- the closing of an end
 
 -- the line on which the closing of a port puts its notice, where a Close would be answered Done; no other end has one
-abbrev pub notice_line : EndId → Facts → Option Sender
-notice_line e f = if may_close f e.0 then sender_of (Port e) f else None
+abbrev pub sender_of_closing_notice : EndId → Facts → Option Sender
+sender_of_closing_notice e f = if may_close f e.0 then sender_of (Port e) f else None
 
 -- What follows the last Enter of a closing: inside, the Push of the notice.
 abbrev pub tell_inside : Bool → Sender → Outcome → Computation Outcome
@@ -116,10 +116,10 @@ tell refused s = do
   tell_inside refused s entered
 
 -- what a closing shows, by that answer and by that of the Close
-abbrev pub shown_closing : Outcome → Outcome → Shown
-shown_closing outcome.NoMemory answer = DoneNoMemory
-shown_closing outcome.Moved answer = DoneMoving
-shown_closing told answer = Answer answer
+abbrev pub shown_by_closing_outcomes : Outcome → Outcome → Shown
+shown_by_closing_outcomes outcome.NoMemory answer = DoneNoMemory
+shown_by_closing_outcomes outcome.Moved answer = DoneMoving
+shown_by_closing_outcomes told answer = Answer answer
 
 abbrev pub close_on : Bool → EndId → Option Sender → Computation Shown
 close_on refused e None = shown_step refused (action.Close e)
@@ -127,13 +127,13 @@ close_on refused e (Some s) = do
   told ← tell refused s
   left ← step refused (action.Leave s)
   closed ← step refused (action.Close e)
-  pure (shown_closing told closed)
+  pure (shown_by_closing_outcomes told closed)
 
 -- The closing of an end. A port's own poster enters, puts the notice where it is inside, and leaves; and then Close. At
 -- a client's or worker's queue or a broadcast channel, and where the Close would be answered Closed or NotNow, that is the only step.
 abbrev pub close : Bool → EndId → Computation Shown
 close refused e = do
-  line ← ask (notice_line e)
+  line ← ask (sender_of_closing_notice e)
   close_on refused e line
 
 -- the closing of each, in order, with hops counted anew; it isn't shown
@@ -230,15 +230,15 @@ start_where refused e true = do
 start_where refused e false = pure tt
 
 -- Start of a worker's queue; no step of any other end
-abbrev pub start_worker_queue : Bool → EndId → Computation (Unit {0})
-start_worker_queue refused e = do
+abbrev pub start_if_worker_queue : Bool → EndId → Computation (Unit {0})
+start_if_worker_queue refused e = do
   of_worker ← ask (λ f. is_queue_of Worker (f.end e.0).kind)
   start_where refused e of_worker
 
 -- What follows an Adopt. A worker's queue that was adopted is started, which isn't shown.
 abbrev pub start_adopted : Bool → EndId → Outcome → Computation Shown
 start_adopted refused e (outcome.Adopted k) = do
-  started ← start_worker_queue refused e
+  started ← start_if_worker_queue refused e
   pure (Answer (outcome.Adopted k))
 start_adopted refused e answer = pure (Answer answer)
 

@@ -55,7 +55,7 @@ fn post_at_each_destination(
         let end = *end;
         posts.push(CastPost { end, outcome })?;
     }
-    Ok(Items::of_list(posts))
+    Ok(Items::from_vec(posts))
 }
 
 /// Enters, pushes where the poster is inside, and leaves.

@@ -5,10 +5,10 @@ ghost use Rattle.hub_core.specs.Facts.{facts};
 ghost use Rattle.hub_core.specs.History.{History};
 ghost use Rattle.hub_core.specs.Shows.{Shows};
 ghost use Rattle.hub_steps.specs.Performed.{ComputesAt};
-ghost use Rattle.hub_steps.specs.Unfolding.{close, close_each, close_ports, shown_closing};
-ghost use Rattle.hub_steps.specs.Unfolding.{notice_line, sweep, tell};
+ghost use Rattle.hub_steps.specs.Unfolding.{close, close_each, close_ports, shown_by_closing_outcomes};
+ghost use Rattle.hub_steps.specs.Unfolding.{sender_of_closing_notice, sweep, tell};
 
-use crate::entering::{enter_queue_with_hops, take_core_step, take_step_and_show};
+use crate::entering::{enter_queue_with_hops, take_core_step, take_step_and_return_shown};
 use crate::shown::Shown;
 use hub_core::{Action, Core, OutOfMemory, Outcome, Sender};
 use hub_envelope::{EndId, Envelope};
@@ -19,22 +19,22 @@ pub fn close(core: &mut Core, end: EndId, memory_refused: bool) -> Result<Shown,
     ensures { IfOk result (λ shown.
         ComputesAt core.old core.new (close memory_refused end) shown) }
 {
-    let Some(line) = notice_line(core, end) else {
-        return take_step_and_show(core, Action::Close(end), memory_refused);
+    let Some(line) = sender_of_closing_notice(core, end) else {
+        return take_step_and_return_shown(core, Action::Close(end), memory_refused);
     };
     let told = enter_and_put_notice(core, line, memory_refused)?;
     take_core_step(core, Action::Leave(line), memory_refused)?;
     let closed = take_core_step(core, Action::Close(end), memory_refused)?;
-    Ok(shown_closing(told, closed))
+    Ok(shown_by_closing_outcomes(told, closed))
 }
 
 /// The line on which the closing of a port puts its notice, where its Close would be answered
 /// `Done` now. No other end has one.
-fn notice_line(core: &Core, end: EndId) -> Option<Sender>
-    ensures { (h : History) → Shows core.now h → result ≡ notice_line end (facts h) }
+fn sender_of_closing_notice(core: &Core, end: EndId) -> Option<Sender>
+    ensures { (h : History) → Shows core.now h → result ≡ sender_of_closing_notice end (facts h) }
 {
     if core.may_close(end) {
-        core.line_of_port(end)
+        core.line_port_posts_on(end)
     } else {
         None
     }
@@ -56,8 +56,8 @@ fn enter_and_put_notice(
 }
 
 /// What a closing shows, by what came of the notice.
-fn shown_closing(told: Outcome, closed: Outcome) -> Shown
-    ensures { result ≡ shown_closing told closed }
+fn shown_by_closing_outcomes(told: Outcome, closed: Outcome) -> Shown
+    ensures { result ≡ shown_by_closing_outcomes told closed }
 {
     match told {
         Outcome::NoMemory => Shown::DoneNoMemory,
@@ -67,7 +67,7 @@ fn shown_closing(told: Outcome, closed: Outcome) -> Shown
 }
 
 /// Closes each end, in order.
-pub fn close_all_ends(
+pub fn close_listed_ends(
     core: &mut Core,
     ends: &[EndId],
     memory_refused: bool,
@@ -106,7 +106,7 @@ fn close_ports_of_envelopes(
         (close_ports memory_refused envelopes.now) tt) }
 {
     for envelope in envelopes {
-        close_all_ends(core, envelope.ports.as_slice(), memory_refused)?;
+        close_listed_ends(core, envelope.ports.as_slice(), memory_refused)?;
     }
     Ok(())
 }

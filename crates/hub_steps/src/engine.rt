@@ -36,7 +36,7 @@ pub fn run_steps<R: Read, W: Write>(
 
 /// What `run_steps` writes for step lines is a function of them: two texts that they may be
 /// answered with are equal. The function does nothing; the law is its contract.
-pub fn step_text_laws()
+pub fn prove_step_output_unique()
     ensures { OneText }
 {}
 
@@ -50,14 +50,19 @@ impl Engine for StepsEngine {
 
     ghost wants_memory = { steps_without_memory };
 
-    fn answer<W: Write>(
+    fn run_and_write_answer<W: Write>(
         alloc: Global,
         input: Vec<u8>,
         writer: &mut CountedWriter<W>,
     ) -> Result<ExitStatus, Device> {
         let held = match run_with_output_held(alloc, &input) {
             Ok(held) => held,
-            Err((line, error)) => return write_input_error(alloc, writer, line, error.name()),
+            Err((line, error)) => return write_input_error(
+                alloc,
+                writer,
+                line,
+                error.printed_kind(),
+            ),
         };
         let HeldBack {
             mut run,
@@ -67,12 +72,12 @@ impl Engine for StepsEngine {
         } = held;
         // Nothing is written before the whole input has been read.
         if let Err((line, error)) = check_step_lines(alloc, number, rest) {
-            return write_input_error(alloc, writer, line, error.name());
+            return write_input_error(alloc, writer, line, error.printed_kind());
         }
         if has_memory {
-            run.run_rest(alloc, rest, writer)
+            run.run_rest_and_write(alloc, rest, writer)
         } else {
-            run.finish_out_of_memory(writer)
+            run.finish_output_out_of_memory(writer)
         }
     }
 }

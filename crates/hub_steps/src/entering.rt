@@ -37,7 +37,7 @@ pub fn enter_queue_with_hops(
 // It is inlined, and so is `take_core_step`, since each caller knows which step it takes.
 #[inline(always)]
 #[tactic(auto, using(crate::proofs::Computing::shown_as))]
-pub fn take_step_and_show(
+pub fn take_step_and_return_shown(
     core: &mut Core,
     action: Action,
     memory_refused: bool,

@@ -17,8 +17,8 @@ mod starting;
 mod step_line;
 mod text;
 
-pub use engine::{run_steps, step_text_laws};
-pub use session::{Reply, Session, session_laws};
+pub use engine::{prove_step_output_unique, run_steps};
+pub use session::{Reply, Session, prove_session_matches_run_steps};
 pub use shown::{CastPost, Shown};
 pub use step_line::{AgentUrl, Command, PosterCommand, PosterName, StepLine, StepLineError};
 pub use text::write_shown_outcome_line;

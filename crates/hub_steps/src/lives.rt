@@ -87,7 +87,7 @@ impl Lives {
     }
 
     /// The agent that was added last was not made.
-    pub fn remove_agent(&mut self)
+    pub fn remove_last_agent(&mut self)
         ensures { (lives : AllLives) → self.old ≡ lives ++ None ∷ [] → self.new ≡ lives }
     {
         self.of_agents.pop();

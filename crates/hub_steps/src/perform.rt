@@ -7,15 +7,17 @@ ghost use Rattle.hub_core.specs.Shows.{Shows, StillShows};
 ghost use Rattle.hub_steps.specs.Performed.{ComputesAt, PerformsAt};
 ghost use Rattle.hub_steps.specs.Unfolding.{command_takes_memory, is_post, line_steps, lives_after};
 ghost use Rattle.hub_steps.specs.Unfolding.{on_line_of, poster_command_takes_memory, sender_of};
-ghost use Rattle.hub_steps.specs.Unfolding.{shown_step, takes_one_step};
+ghost use Rattle.hub_steps.specs.Unfolding.{shown_step, takes_at_most_one_step};
 
 use crate::casting::cast;
 use crate::closing::{close, sweep_and_close_ports};
-use crate::entering::{take_core_step, take_step_and_show};
+use crate::entering::{take_core_step, take_step_and_return_shown};
 use crate::lives::Lives;
 use crate::posting::post;
 use crate::shown::Shown;
-use crate::starting::{adopt, make_agent, make_member, make_worker_queue, start_client_queue};
+use crate::starting::{
+    adopt, make_agent, make_and_start_member, make_and_start_worker_queue, start_if_client_queue,
+};
 use crate::step_line::{Command, PosterCommand, PosterName, StepLine};
 use hub_core::{Action, Core, Kind, OutOfMemory, Outcome, Sender};
 use hub_envelope::{AgentId, EndId, LineId, MAX_LINES};
@@ -38,7 +40,7 @@ pub fn perform(
     // Steps that take no memory are never refused for want of it, with the mark or without.
     ensures memory { OnErr result (command_takes_memory line.command ≡ true) }
     // Where the one step of a line finds no memory, nothing was changed.
-    ensures still { OnErr result (takes_one_step line.command ≡ true
+    ensures still { OnErr result (takes_at_most_one_step line.command ≡ true
         → StillShows core.old core.new × (lives.new ≡ lives.old)) }
 {
     let StepLine {
@@ -52,7 +54,7 @@ pub fn perform(
             command,
             memory_refused,
         ),
-        Command::Step(Action::Take(end)) => take_step_and_show(
+        Command::Step(Action::Take(end)) => take_step_and_return_shown(
             core,
             Action::Take(end),
             memory_refused,
@@ -80,7 +82,7 @@ fn perform_rarer(
     ensures lives { IfOk result (λ shown.
         lives.new ≡ lives_after line.command shown lives.old) }
     ensures memory { OnErr result (command_takes_memory line.command ≡ true) }
-    ensures still { OnErr result (takes_one_step line.command ≡ true
+    ensures still { OnErr result (takes_at_most_one_step line.command ≡ true
         → StillShows core.old core.new × (lives.new ≡ lives.old)) }
 {
     let StepLine {
@@ -88,17 +90,17 @@ fn perform_rarer(
         memory_refused,
     } = line;
     match command {
-        Command::Step(action) => take_step_and_show(core, action, memory_refused),
+        Command::Step(action) => take_step_and_return_shown(core, action, memory_refused),
         Command::Agent(url) => make_agent(core, lives, url, memory_refused),
-        Command::Worker(agent) => make_worker_queue(core, lives, agent, memory_refused),
-        Command::Member(agent, name) => make_member(core, agent, name, memory_refused),
+        Command::Worker(agent) => make_and_start_worker_queue(core, lives, agent, memory_refused),
+        Command::Member(agent, name) => make_and_start_member(core, agent, name, memory_refused),
         Command::At(poster, command) => perform_poster_command(
             core,
             poster,
             command,
             memory_refused,
         ),
-        Command::Loaded(end) => start_client_queue(core, end, memory_refused),
+        Command::Loaded(end) => start_if_client_queue(core, end, memory_refused),
         Command::Adopt(end, agent) => adopt(core, end, agent, memory_refused),
         Command::Close(end) => close(core, end, memory_refused),
         Command::Sweep(end) => sweep_and_close_ports(core, end, memory_refused),
@@ -134,7 +136,7 @@ fn perform_poster_command(
             return post(core, sender, ports, body, memory_refused);
         }
     };
-    take_step_and_show(core, action, memory_refused)
+    take_step_and_return_shown(core, action, memory_refused)
 }
 
 /// The line that a poster posts on. `None` where it names nothing.
@@ -142,13 +144,13 @@ fn line_of_poster(core: &Core, poster: PosterName) -> Option<Sender>
     ensures { (h : History) → Shows core.now h → result ≡ sender_of poster (facts h) }
 {
     match poster {
-        PosterName::Port(port) => core.line_of_port(port),
-        PosterName::Line(end, line) => line_of_queue(core, end, line),
+        PosterName::Port(port) => core.line_port_posts_on(port),
+        PosterName::Line(end, line) => existing_line_of_end(core, end, line),
     }
 }
 
 /// A line of a client's or worker's queue, or of a broadcast channel.
-fn line_of_queue(core: &Core, end: EndId, line: LineId) -> Option<Sender>
+fn existing_line_of_end(core: &Core, end: EndId, line: LineId) -> Option<Sender>
     ensures { (h : History) → Shows core.now h
         → result ≡ sender_of (PosterName.Line end line) (facts h) }
 {

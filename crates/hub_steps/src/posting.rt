@@ -8,7 +8,7 @@ ghost use Rattle.hub_core.specs.Shows.{Shows};
 ghost use Rattle.hub_steps.specs.Performed.{ComputesAt};
 ghost use Rattle.hub_steps.specs.Unfolding.{post, send};
 
-use crate::closing::close_all_ends;
+use crate::closing::close_listed_ends;
 use crate::entering::{enter_queue_with_hops, take_core_step};
 use crate::shown::Shown;
 use hub_core::{Action, Core, Listing, OutOfMemory, Outcome, Sender};
@@ -36,7 +36,7 @@ pub fn post(
     match check_port_list(core, sender, listed) {
         Listing::Good => enter_push_and_leave(core, sender, ports, body, memory_refused),
         Listing::HoldsTarget => {
-            close_all_ends(core, listed, memory_refused)?;
+            close_listed_ends(core, listed, memory_refused)?;
             Ok(Shown::Doomed)
         }
         Listing::Bad => Ok(Shown::Answer(Outcome::NotNow)),

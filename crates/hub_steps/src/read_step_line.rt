@@ -166,13 +166,13 @@ fn rarer_command_of(
         → has_part (spelled step) ≡ true) }
 {
     match step {
-        RarerStep::Agent => Ok(Command::Agent(agent_url_in(alloc, one_word(rest)?)?)),
+        RarerStep::Agent => Ok(Command::Agent(agent_origin_in(alloc, one_word(rest)?)?)),
         RarerStep::Channel => Ok(Command::Step(Action::Channel(agent_after(rest)?))),
         RarerStep::Client => Ok(Command::Step(Action::Client(agent_after(rest)?))),
         RarerStep::Worker => Ok(Command::Worker(agent_after(rest)?)),
         RarerStep::Member => {
             let (agent, name) = word_and_rest(rest)?;
-            Ok(Command::Member(agent_in(agent)?, name_in(alloc, name)?))
+            Ok(Command::Member(agent_in(agent)?, channel_name_in(alloc, name)?))
         }
         RarerStep::Line => {
             let (end, agent) = end_and_agent_after(rest)?;
@@ -202,7 +202,7 @@ fn rarer_command_of(
         RarerStep::Cast => {
             let (end, list, body) = two_words_and_rest(rest)?;
             let end = end_in(end)?;
-            let ports = list_in(alloc, list)?;
+            let ports = end_list_in(alloc, list)?;
             Ok(Command::Cast(end, ports, Body::read(alloc, body)?))
         }
         RarerStep::Part => Ok(Command::Step(Action::Part(end_after(rest)?))),
@@ -259,7 +259,7 @@ fn posting_after(
 {
     let (poster, list, body) = two_words_and_rest(rest)?;
     let poster = poster_in(poster)?;
-    let ports = list_in(alloc, list)?;
+    let ports = end_list_in(alloc, list)?;
     let body = Body::read(alloc, body)?;
     Ok((poster, ports, body))
 }
@@ -373,19 +373,19 @@ fn poster_named(word: &str) -> Option<PosterName>
         return Some(PosterName::Port(EndId(number_read(word)?)));
     };
     let end = EndId(number_read(end)?);
-    let line = line_of_number(number_read(line)?);
+    let line = line_id_from_number(number_read(line)?);
     Some(PosterName::Line(end, line))
 }
 
 /// No end has a line 255, so each number that names no line may be read as that one.
-fn line_of_number(number: u32) -> LineId
+fn line_id_from_number(number: u32) -> LineId
     ensures { result ≡ line_read number }
 {
     LineId(u8::try_from(number).unwrap_or(u8::MAX))
 }
 
 #[inline(always)]
-fn list_in(alloc: Global, word: &str) -> Result<Items<EndId>, StepLineError>
+fn end_list_in(alloc: Global, word: &str) -> Result<Items<EndId>, StepLineError>
     ensures { IsReadAs StepLineError.OutOfMemory (λ x. x) result (word_read LIST word.now) }
 {
     match read_ends(alloc, word, u32::MAX) {
@@ -407,7 +407,7 @@ fn event_in(word: &str) -> Result<Event, StepLineError>
 
 /// The origin of a URL, or why it gives none.
 #[tactic(auto, unfolding(crate::specs::StepLine::url_read))]
-fn agent_url_in(alloc: Global, word: &str) -> Result<AgentUrl, StepLineError>
+fn agent_origin_in(alloc: Global, word: &str) -> Result<AgentUrl, StepLineError>
     ensures { IsReadAs StepLineError.OutOfMemory (λ x. x) result (word_read U word.now) }
 {
     if word == "-" {
@@ -423,7 +423,7 @@ fn agent_url_in(alloc: Global, word: &str) -> Result<AgentUrl, StepLineError>
 
 /// The JSON string that a text is.
 #[tactic(auto, unfolding(crate::specs::StepLine::name_read))]
-fn name_in(alloc: Global, text: &str) -> Result<Text, StepLineError>
+fn channel_name_in(alloc: Global, text: &str) -> Result<Text, StepLineError>
     ensures { IsReadAs StepLineError.OutOfMemory (λ x. x) result (word_read NAME text.now) }
 {
     let value = match Value::from_str(alloc, text) {

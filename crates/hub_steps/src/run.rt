@@ -25,7 +25,9 @@ use crate::shown::Shown;
 use crate::step_line::{StepLine, StepLineError};
 use crate::text::write_shown_outcome_line;
 use hub_core::{Core, OutOfMemory};
-use hub_engine::{CountedWriter, Device, ExitStatus, PIECE, write_kept, write_out_of_memory};
+use hub_engine::{
+    CountedWriter, Device, ExitStatus, PIECE, write_and_clear_kept, write_out_of_memory,
+};
 use hub_text::split_text_line;
 use std::alloc::Global;
 use std::io::Write;
@@ -162,7 +164,7 @@ impl StepRun {
     }
 
     /// Runs the step lines that are left, which were tested, and writes the outcome lines of all.
-    pub fn run_rest<W: Write>(
+    pub fn run_rest_and_write<W: Write>(
         &mut self,
         alloc: Global,
         rest: &[u8],
@@ -182,23 +184,23 @@ impl StepRun {
         while !rest.is_empty() {
             let (bytes, after) = split_text_line(rest);
             let Ok(line) = read_step_line(alloc, bytes) else {
-                return self.finish_out_of_memory(writer);
+                return self.finish_output_out_of_memory(writer);
             };
             if self.run_and_keep_outcome(alloc, line).is_err() {
-                return self.finish_out_of_memory(writer);
+                return self.finish_output_out_of_memory(writer);
             }
             rest = after;
             if self.kept.len() >= PIECE {
-                write_kept(writer, &mut self.kept)?;
+                write_and_clear_kept(writer, &mut self.kept)?;
             }
         }
-        write_kept(writer, &mut self.kept)?;
+        write_and_clear_kept(writer, &mut self.kept)?;
         writer.flush()?;
         Ok(ExitStatus::Success)
     }
 
     /// Ends where memory ran out: the outcome lines so far are followed by `out of memory`.
-    pub fn finish_out_of_memory<W: Write>(
+    pub fn finish_output_out_of_memory<W: Write>(
         &mut self,
         writer: &mut CountedWriter<W>,
     ) -> Result<ExitStatus, Device>
@@ -213,7 +215,7 @@ impl StepRun {
         ensures flushed { CountsFlush result (flushes_made writer.old)
             (flushes_made writer.new) }
     {
-        write_kept(writer, &mut self.kept)?;
+        write_and_clear_kept(writer, &mut self.kept)?;
         write_out_of_memory(writer)
     }
 }

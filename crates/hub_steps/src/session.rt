@@ -5,7 +5,7 @@ ghost use Rattle.hub_steps.specs.Session.{GoesOnFrom, HasRun, IsKindOf, RunsLine
 ghost use Rattle.hub_steps.specs.Session.{SaidIsTheText, Stays, TakesMemory, TakesMore, is_lost_by};
 ghost use Rattle.hub_steps.specs.Session.{is_told, told};
 ghost use Rattle.hub_steps.specs.StepLineKind.{step_kind_text};
-ghost use Rattle.hub_steps.specs.Unfolding.{command_takes_memory, takes_one_step};
+ghost use Rattle.hub_steps.specs.Unfolding.{command_takes_memory, takes_at_most_one_step};
 ghost use Rattle.hub_steps.specs.declared.session.Reply.TheVariants as reply;
 
 use crate::perform::perform;
@@ -101,13 +101,13 @@ impl Session {
             return Reply::Lost;
         }
         match read_step_line(alloc, bytes) {
-            Ok(line) => self.run_step_line(alloc, line),
-            Err(error) => self.answer_read_error(error),
+            Ok(line) => self.run_and_keep_answer(alloc, line),
+            Err(error) => self.keep_parse_error_and_reply(error),
         }
     }
 
     /// Runs a step line.
-    fn run_step_line(&mut self, alloc: Global, line: StepLine) -> Reply
+    fn run_and_keep_answer(&mut self, alloc: Global, line: StepLine) -> Reply
         requires { self.old.is_lost ≡ false }
         ensures ran { (result ≡ reply.Ran) ⊎ (result ≡ reply.RanUntold)
             → RunsLine self.old self.new line }
@@ -117,10 +117,10 @@ impl Session {
         ensures no_memory { result ≡ reply.NoMemory
             → Stays self.old self.new × (command_takes_memory line.command ≡ true) }
         ensures lost { self.new.is_lost ≡ is_lost_by result }
-        ensures loses { result ≡ reply.Lost → (takes_one_step line.command ≡ false)
+        ensures loses { result ≡ reply.Lost → (takes_at_most_one_step line.command ≡ false)
             × (command_takes_memory line.command ≡ true) }
     {
-        let takes_one_step = line.command.takes_one_step();
+        let takes_at_most_one_step = line.command.takes_at_most_one_step();
         match perform(alloc, &mut self.run.core, &mut self.run.lives, line) {
             Ok(shown) => {
                 self.last = Last::Untold(shown);
@@ -129,7 +129,7 @@ impl Session {
                     Err(OutOfMemory) => Reply::RanUntold,
                 }
             }
-            Err(OutOfMemory) if takes_one_step => Reply::NoMemory,
+            Err(OutOfMemory) if takes_at_most_one_step => Reply::NoMemory,
             Err(OutOfMemory) => {
                 self.is_lost = true;
                 Reply::Lost
@@ -138,7 +138,7 @@ impl Session {
     }
 
     /// Answers a text line that is no step line, or that found no memory while it was read.
-    fn answer_read_error(&mut self, error: StepLineError) -> Reply
+    fn keep_parse_error_and_reply(&mut self, error: StepLineError) -> Reply
         requires { self.old.is_lost ≡ false }
         ensures bad { result ≡ reply.Bad → (is_told self.new ≡ true)
             × (step_kind_text error ≡ Some (told self.new)) }
@@ -148,7 +148,7 @@ impl Session {
         ensures run { self.new.run ≡ self.old.run }
         ensures lost { self.new.is_lost ≡ false }
     {
-        match error.name() {
+        match error.printed_kind() {
             Some(name) => {
                 self.last = Last::Bad(name);
                 Reply::Bad
@@ -190,6 +190,6 @@ impl Session {
 
 /// What a session says to the step lines that it runs is their one text, which `run_steps`
 /// writes of an input that has them. The function does nothing; the law is its contract.
-pub fn session_laws()
+pub fn prove_session_matches_run_steps()
     ensures { SaidIsTheText }
 {}

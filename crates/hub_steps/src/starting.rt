@@ -4,9 +4,9 @@ ghost use Rattle.std.specs.Prelude.{◌≡◌, IfOk, IsOk, OnErr, OnOk};
 ghost use Rattle.hub_core.specs.Shows.{StillShows};
 ghost use Rattle.hub_steps.specs.Performed.{ComputesAt};
 ghost use Rattle.hub_steps.specs.Unfolding.{adopt, agent, agent_lives, lives_after, load};
-ghost use Rattle.hub_steps.specs.Unfolding.{shown_step, start_worker_queue, then_start};
+ghost use Rattle.hub_steps.specs.Unfolding.{shown_step, start_if_worker_queue, then_start};
 
-use crate::entering::{take_core_step, take_step_and_show};
+use crate::entering::{take_core_step, take_step_and_return_shown};
 use crate::lives::Lives;
 use crate::shown::Shown;
 use crate::step_line::{AgentUrl, Command};
@@ -51,11 +51,11 @@ fn add_agent(
     match take_core_step(core, Action::Agent(origin), memory_refused) {
         Ok(Outcome::Agent(agent)) => Ok(Shown::Answer(Outcome::Agent(agent))),
         Ok(refused) => {
-            lives.remove_agent();
+            lives.remove_last_agent();
             Ok(Shown::Answer(refused))
         }
         Err(error) => {
-            lives.remove_agent();
+            lives.remove_last_agent();
             Err(error)
         }
     }
@@ -80,7 +80,7 @@ fn make_and_start_queue(
 }
 
 /// Makes the queue of a worker, and starts it. The agent has a life from then on.
-pub fn make_worker_queue(
+pub fn make_and_start_worker_queue(
     core: &mut Core,
     lives: &mut Lives,
     agent: AgentId,
@@ -99,7 +99,7 @@ pub fn make_worker_queue(
 }
 
 /// Makes a broadcast channel, and starts it.
-pub fn make_member(
+pub fn make_and_start_member(
     core: &mut Core,
     agent: AgentId,
     name: Text,
@@ -124,7 +124,7 @@ pub fn adopt(
 {
     match take_core_step(core, Action::Adopt(end, agent), memory_refused)? {
         Outcome::Adopted(queue) => {
-            start_worker_queue(core, end, memory_refused)?;
+            start_if_worker_queue(core, end, memory_refused)?;
             Ok(Shown::Answer(Outcome::Adopted(queue)))
         }
         answer => Ok(Shown::Answer(answer)),
@@ -132,9 +132,13 @@ pub fn adopt(
 }
 
 /// Starts a worker's queue. Of any other end no step is taken.
-fn start_worker_queue(core: &mut Core, end: EndId, memory_refused: bool) -> Result<(), OutOfMemory>
+fn start_if_worker_queue(
+    core: &mut Core,
+    end: EndId,
+    memory_refused: bool,
+) -> Result<(), OutOfMemory>
     ensures { OnOk result (ComputesAt core.old core.new
-        (start_worker_queue memory_refused end) tt) }
+        (start_if_worker_queue memory_refused end) tt) }
 {
     if matches!(core.kind_of(end), Some(Kind::Worker)) {
         take_core_step(core, Action::Start(end), memory_refused)?;
@@ -145,7 +149,7 @@ fn start_worker_queue(core: &mut Core, end: EndId, memory_refused: bool) -> Resu
 }
 
 /// Starts the queue of a client, whose document is parsed. Of any other end no step is taken.
-pub fn start_client_queue(
+pub fn start_if_client_queue(
     core: &mut Core,
     end: EndId,
     memory_refused: bool,
@@ -155,7 +159,7 @@ pub fn start_client_queue(
     ensures memory { IsOk result }
 {
     if matches!(core.kind_of(end), Some(Kind::Client)) {
-        take_step_and_show(core, Action::Start(end), memory_refused)
+        take_step_and_return_shown(core, Action::Start(end), memory_refused)
     } else {
         Ok(Shown::Answer(Outcome::NotNow))
     }

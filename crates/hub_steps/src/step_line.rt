@@ -66,11 +66,11 @@ pub enum Command {
 }
 
 impl Command {
-    ghost use Rattle.hub_steps.specs.Unfolding.{takes_one_step};
+    ghost use Rattle.hub_steps.specs.Unfolding.{takes_at_most_one_step};
 
     /// Whether it takes one step of the core, or none.
-    pub fn takes_one_step(&self) -> bool
-        ensures { result ≡ takes_one_step self.now }
+    pub fn takes_at_most_one_step(&self) -> bool
+        ensures { result ≡ takes_at_most_one_step self.now }
     {
         !matches!(
             self,
@@ -117,7 +117,7 @@ impl StepLineError {
     ghost use Rattle.hub_steps.specs.StepLineKind.{step_kind_text};
 
     /// The name by which the kind of a bad line is printed. `None` where memory ran out.
-    pub fn name(self) -> Option<&'static str>
+    pub fn printed_kind(self) -> Option<&'static str>
         ensures { option_map (λ name. name.now) result ≡ step_kind_text self }
     {
         match self {

@@ -202,12 +202,12 @@ fn write_discarded(text: &mut String, envelopes: &[Envelope]) -> Result<(), OutO
         return text.push_str("discarded nothing\n");
     }
     text.push_str("discarded")?;
-    write_envelope_names(text, envelopes)?;
+    write_names_of_envelopes(text, envelopes)?;
     text.push_str("\n")
 }
 
 /// Writes a space, the name and the line of each envelope.
-fn write_envelope_names(text: &mut String, envelopes: &[Envelope]) -> Result<(), OutOfMemory>
+fn write_names_of_envelopes(text: &mut String, envelopes: &[Envelope]) -> Result<(), OutOfMemory>
     ensures { OnOk result (string_bytes text.new
         ≡ string_bytes text.old ++ names_text envelopes.now) }
 {

@@ -15,7 +15,7 @@ fn ends(alloc: Global, count: u32) -> Result<Vec<EndId>, AllocError> {
 
 fn ports(rt: &(impl Abort + AllocGlobal), count: u32) -> Ports {
     let ends = ends(rt.alloc(), count).expect(rt, "memory");
-    Ports::of_list(ends).expect(rt, "few ports")
+    Ports::try_from_vec(ends).expect(rt, "few ports")
 }
 
 #[test]
@@ -30,7 +30,7 @@ fn lists_at_most_sixteen_ports(rt: HostRuntime) {
 #[test]
 fn gives_a_longer_list_back(rt: HostRuntime) {
     let longer = ends(rt.alloc(), 17).expect(&rt, "memory");
-    let refused = Ports::of_list(longer).err().expect(&rt, "the list");
+    let refused = Ports::try_from_vec(longer).err().expect(&rt, "the list");
     assert_eq!(rt; refused.len(), 17);
 }
 

@@ -2,7 +2,7 @@
 //! tests/rows/check.
 use crate::refused_logs::{Refused, deliveries_text, text_of};
 use hub_envelope::{AgentId, Body, EndId, LineId};
-use hub_trace::{Content, Log, Payload, Posted, is_name, is_port_list, read_logs};
+use hub_trace::{Content, Log, Payload, Posted, is_port_list, is_posted_within_limits, read_logs};
 use std::alloc::Global;
 use std::test::Fail;
 
@@ -21,20 +21,20 @@ fn body(alloc: Global) -> Result<Body, Refused> {
 /// A log that puts a message with ports and a notice, and closes an end.
 fn first(alloc: Global) -> Result<Log, Refused> {
     let ports = [EndId(7), EndId(0), EndId(12)];
-    if !is_name(&POSTED) || !is_port_list(&ports) {
+    if !is_posted_within_limits(&POSTED) || !is_port_list(&ports) {
         return Err(Refused::Wrong);
     }
     let mut log = Log::new(alloc, AgentId(3));
     let payload = Payload::copy_of_parts(alloc, &ports, &body(alloc)?)?;
     log.record_put(POSTED, Content::Payload(payload))?;
     log.record_put(POSTED, Content::Notice)?;
-    log.record_closed(EndId(2))?;
+    log.record_end_closed(EndId(2))?;
     Ok(log)
 }
 
 /// A log that adopts an end, and gets a message and a notice.
 fn second(alloc: Global) -> Result<Log, Refused> {
-    if !is_name(&POSTED) || !is_port_list(&[]) {
+    if !is_posted_within_limits(&POSTED) || !is_port_list(&[]) {
         return Err(Refused::Wrong);
     }
     let mut log = Log::new(alloc, AgentId(15));

@@ -2,8 +2,8 @@
 // allocation is refused.
 use hub_envelope::{AgentId, Body, BodyError, EndId, LineId};
 use hub_trace::{
-    Content, LOG_HEADER, Log, LogError, Payload, Posted, check, deliveries, is_name, is_port_list,
-    read_logs,
+    Content, LOG_HEADER, Log, LogError, Payload, Posted, check, delivered_lines, is_port_list,
+    is_posted_within_limits, read_logs,
 };
 use std::alloc::{AllocError, AllocFailed, Global};
 use std::fmt;
@@ -77,7 +77,7 @@ fn append(alloc: Global, log: &mut Log, step: u32) -> Result<(), Refused> {
     };
     let ports = [EndId(7), EndId(0)];
     let closed = EndId(100 + step % 100);
-    if !is_name(&posted) || !is_port_list(&ports) || log.has_closed(closed) {
+    if !is_posted_within_limits(&posted) || !is_port_list(&ports) || log.has_closed_end(closed) {
         return Err(Refused::Wrong);
     }
     let body = Body::read(alloc, "[1,{\"a\":null,\"b\":[]}]")?;
@@ -93,7 +93,7 @@ fn append(alloc: Global, log: &mut Log, step: u32) -> Result<(), Refused> {
         2 => log.record_adopted(EndId(5), 1)?,
         3 => log.record_put(noticed, Content::Notice)?,
         4 => log.record_got(noticed, Content::Notice)?,
-        _ => log.record_closed(closed)?,
+        _ => log.record_end_closed(closed)?,
     }
     Ok(())
 }
@@ -128,7 +128,7 @@ const DELIVERIES: &str = "end 4 line 31 0:0 0:1 0:2 0:3\nend 6 line 31 0:0 0:1 0
 /// What was got of each line, a text line for each.
 pub(crate) fn deliveries_text(alloc: Global, logs: &[Log]) -> Result<String, Refused> {
     let mut text = String::new(alloc);
-    for line in &deliveries(alloc, logs)? {
+    for line in &delivered_lines(alloc, logs)? {
         writeln!(text, "{line}")?;
     }
     Ok(text)

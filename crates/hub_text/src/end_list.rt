@@ -22,7 +22,7 @@ pub fn read_ends(alloc: Global, word: &str, max: u32) -> Result<Option<Items<End
         return Ok(Some(ends));
     }
     for number in word.split(',') {
-        if !add_end(&mut ends, number, max)? {
+        if !read_and_add_end(&mut ends, number, max)? {
             return Ok(None);
         }
     }
@@ -30,7 +30,7 @@ pub fn read_ends(alloc: Global, word: &str, max: u32) -> Result<Option<Items<End
 }
 
 /// Adds the end that the word names. False where it names none.
-fn add_end(ends: &mut Items<EndId>, word: &str, max: u32) -> Result<bool, OutOfMemory>
+fn read_and_add_end(ends: &mut Items<EndId>, word: &str, max: u32) -> Result<bool, OutOfMemory>
     ensures { IfOk result (λ added. Adds max ends.old word.now added ends.new) }
 {
     let Some(number) = number_of(word, u64::from(max)) else {

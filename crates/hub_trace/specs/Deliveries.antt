@@ -1,4 +1,4 @@
--- What was got of all lines, as `deliveries` tells it, and how it is written.
+-- What was got of all lines, as `delivered_lines` tells it, and how it is written.
 use Rattle.std.specs.Prelude.{◌≡◌, ◌≢◌, ℕ, List, [], ◌++◌, ◌==◌, ◌&&◌, codes, map}
 use Rattle.std.specs.Fmt.{decimal}
 use Rattle.std.specs.List.{All, AllPairs, filter, flat_map}

@@ -7,7 +7,7 @@ ghost use Rattle.hub_trace.specs.Views.{RisesByLine, accepted_in, delivery_of};
 
 use crate::content::Content;
 use crate::log::Log;
-use crate::log_entry::{LogEntry, is_after_sender_line, is_before_sender_line};
+use crate::log_entry::{LogEntry, is_of_earlier_line, is_of_later_line};
 use hub_envelope::{EndId, LineId, OutOfMemory, Posted};
 use std::alloc::Global;
 
@@ -20,7 +20,7 @@ pub(crate) struct AcceptedEnvelope<'a> {
 
 /// The accepted envelopes of all logs, by end, line, epoch and number. Envelopes of equal names
 /// stand in the order of the logs.
-pub(crate) fn all_accepted_sorted(
+pub(crate) fn sorted_accepted_envelopes_of_logs(
     alloc: Global,
     logs: &[Log],
 ) -> Result<Vec<AcceptedEnvelope<'_>>, OutOfMemory>
@@ -28,7 +28,7 @@ pub(crate) fn all_accepted_sorted(
         accepted_in v.items end line ≡ accepted logs.now end line) }
     ensures order { IfOk result (λ v. RisesByLine (λ a. a.posted) v.items) }
 {
-    let mut found = all_accepted(alloc, logs)?;
+    let mut found = accepted_envelopes_of_logs(alloc, logs)?;
     found.sort_by_key(|a| (
         a.posted.end.0,
         a.posted.line.0,
@@ -39,18 +39,21 @@ pub(crate) fn all_accepted_sorted(
 }
 
 /// The accepted envelopes in the order of the logs.
-fn all_accepted(alloc: Global, logs: &[Log]) -> Result<Vec<AcceptedEnvelope<'_>>, OutOfMemory>
+fn accepted_envelopes_of_logs(
+    alloc: Global,
+    logs: &[Log],
+) -> Result<Vec<AcceptedEnvelope<'_>>, OutOfMemory>
     ensures { IfOk result (λ v. map delivery_of v.items ≡ all_puts logs.now) }
 {
     let mut found = Vec::new(alloc);
     for log in logs {
-        add_accepted(log.entries(), &mut found)?;
+        add_accepted_of_log(log.entries(), &mut found)?;
     }
     Ok(found)
 }
 
 /// Adds the accepted envelopes of one log.
-fn add_accepted<'a>(
+fn add_accepted_of_log<'a>(
     entries: &'a [LogEntry],
     found: &mut Vec<AcceptedEnvelope<'a>>,
 ) -> Result<(), OutOfMemory>
@@ -77,8 +80,8 @@ pub(crate) fn accepted_of_line<'s, 'a>(
     requires { RisesByLine (λ a. a.posted) accepted.now }
     ensures { result.now ≡ filter (λ a. is_of end.0 line.0 a.posted) accepted.now }
 {
-    let from = accepted.partition_point(|a| is_before_sender_line(&a.posted, end, line));
+    let from = accepted.partition_point(|a| is_of_earlier_line(&a.posted, end, line));
     let rest = &accepted[from..];
-    let count = rest.partition_point(|a| !is_after_sender_line(&a.posted, end, line));
+    let count = rest.partition_point(|a| !is_of_later_line(&a.posted, end, line));
     &rest[..count]
 }

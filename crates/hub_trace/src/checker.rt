@@ -13,10 +13,10 @@ ghost use Rattle.hub_trace.specs.declared.verdict.Verdict.TheVariants.{Clean};
 ghost use Rattle.hub_trace.specs.Views.{RisesByLine, accepted_in, delivery_of, got_among};
 ghost use Rattle.hub_trace.specs.Views.{receipt_of};
 
-use crate::accepted::{AcceptedEnvelope, accepted_of_line, all_accepted_sorted};
+use crate::accepted::{AcceptedEnvelope, accepted_of_line, sorted_accepted_envelopes_of_logs};
 use crate::log::Log;
-use crate::log_entry::has_same_name_as;
-use crate::received::{Incoming, arrivals_in_order, arrivals_of_first_line};
+use crate::log_entry::has_same_epoch_and_number;
+use crate::received::{Incoming, all_arrivals_sorted, leading_arrivals_of_line};
 use crate::verdict::{FaultKind, Verdict};
 use hub_envelope::{OutOfMemory, Posted};
 use std::alloc::Global;
@@ -29,8 +29,8 @@ pub fn check(alloc: Global, logs: &[Log]) -> Result<Verdict, OutOfMemory>
     ensures verdict { IfOk result
         (λ verdict. IsVerdict (accepted logs.now) (got logs.now) verdict) }
 {
-    let accepted = all_accepted_sorted(alloc, logs)?;
-    let arrivals = arrivals_in_order(alloc, logs)?;
+    let accepted = sorted_accepted_envelopes_of_logs(alloc, logs)?;
+    let arrivals = all_arrivals_sorted(alloc, logs)?;
     Ok(first_fault(&accepted, &arrivals))
 }
 
@@ -45,7 +45,7 @@ fn first_fault(accepted: &[AcceptedEnvelope<'_>], arrivals: &[Incoming<'_>]) -> 
         let end = first.posted.end;
         let line = first.posted.line;
         let put = accepted_of_line(accepted, end, line);
-        let got = arrivals_of_first_line(rest, end, line);
+        let got = leading_arrivals_of_line(rest, end, line);
         if let Some((place, kind)) = first_fault_of_sender_line(put, got) {
             return Verdict::Fault {
                 end,
@@ -72,7 +72,7 @@ fn first_fault_of_sender_line(
     let mut noticed = false;
     for (place, arrival) in got.iter().enumerate() {
         if !is_arrival_right(accepted, noticed, place, arrival) {
-            let kind = fault_kind_of(accepted, &got[..place], noticed, arrival);
+            let kind = fault_kind_of_arrival(accepted, &got[..place], noticed, arrival);
             return Some((place, kind));
         }
         // What is right has no notice before it.
@@ -104,7 +104,7 @@ fn is_arrival_right(
 }
 
 /// What is wrong with an arrival that isn't right. The earlier ones of its line are all before it.
-fn fault_kind_of(
+fn fault_kind_of_arrival(
     accepted: &[AcceptedEnvelope<'_>],
     earlier: &[Incoming<'_>],
     noticed: bool,
@@ -120,7 +120,7 @@ fn fault_kind_of(
     if noticed {
         return FaultKind::AfterNotice;
     }
-    if is_name_at_place(accepted, earlier.len(), &arrival.posted) {
+    if is_name_accepted_at_place(accepted, earlier.len(), &arrival.posted) {
         return FaultKind::Changed;
     }
     if is_name_among_got(earlier, &arrival.posted) {
@@ -133,11 +133,15 @@ fn fault_kind_of(
 }
 
 /// Whether the accepted envelope at the place has this name.
-fn is_name_at_place(accepted: &[AcceptedEnvelope<'_>], place: usize, posted: &Posted) -> bool
+fn is_name_accepted_at_place(
+    accepted: &[AcceptedEnvelope<'_>],
+    place: usize,
+    posted: &Posted,
+) -> bool
     ensures { result ≡ names_delivery (slice_get (map delivery_of accepted.now) place) posted.now }
 {
     match accepted.get(place) {
-        Some(expected) => has_same_name_as(&expected.posted, posted),
+        Some(expected) => has_same_epoch_and_number(&expected.posted, posted),
         None => false,
     }
 }
@@ -147,7 +151,9 @@ fn is_name_among_accepted(accepted: &[AcceptedEnvelope<'_>], posted: &Posted) ->
     ensures { result
         ≡ list_any (λ d. is_name_of d.posted posted.now) (map delivery_of accepted.now) }
 {
-    accepted.iter().any(|a| has_same_name_as(&a.posted, posted))
+    accepted
+        .iter()
+        .any(|a| has_same_epoch_and_number(&a.posted, posted))
 }
 
 /// Whether an envelope that was got has this name.
@@ -155,5 +161,6 @@ fn is_name_among_got(got: &[Incoming<'_>], posted: &Posted) -> bool
     ensures { result
         ≡ list_any (λ r. is_name_of r.delivery.posted posted.now) (map receipt_of got.now) }
 {
-    got.iter().any(|a| has_same_name_as(&a.posted, posted))
+    got.iter()
+        .any(|a| has_same_epoch_and_number(&a.posted, posted))
 }

@@ -7,7 +7,7 @@ ghost use Rattle.hub_trace.specs.Deliveries.{delivered_line_text, DeliveriesAreO
 ghost use Rattle.hub_trace.specs.Views.{RisesByLine, got_among};
 
 use crate::log::Log;
-use crate::received::{Incoming, arrivals_in_order, arrivals_of_first_line};
+use crate::received::{Incoming, all_arrivals_sorted, leading_arrivals_of_line};
 use hub_envelope::{EndId, LineId, OutOfMemory, Posted};
 use std::alloc::Global;
 use std::fmt;
@@ -45,10 +45,10 @@ impl fmt::Display for DeliveredLine {
 ///
 /// It judges nothing: what was got twice stands twice, and what was got after the end was closed
 /// or after a notice stands too. For n entries it takes a time in the order of n log n.
-pub fn deliveries(alloc: Global, logs: &[Log]) -> Result<Vec<DeliveredLine>, OutOfMemory>
+pub fn delivered_lines(alloc: Global, logs: &[Log]) -> Result<Vec<DeliveredLine>, OutOfMemory>
     ensures { IfOk result (λ lines. AreDeliveries logs.now lines.items) }
 {
-    let arrivals = arrivals_in_order(alloc, logs)?;
+    let arrivals = all_arrivals_sorted(alloc, logs)?;
     deliveries_by_line(alloc, &arrivals)
 }
 
@@ -68,7 +68,7 @@ fn deliveries_by_line(
     while let Some(first) = rest.first() {
         let end = first.posted.end;
         let line = first.posted.line;
-        let got = arrivals_of_first_line(rest, end, line);
+        let got = leading_arrivals_of_line(rest, end, line);
         let names = names_of_arrivals(alloc, got)?;
         lines.push(DeliveredLine { end, line, names })?;
         rest = &rest[got.len()..];
@@ -83,8 +83,8 @@ fn names_of_arrivals(alloc: Global, arrivals: &[Incoming<'_>]) -> Result<Vec<Pos
     Ok(arrivals.iter().map(|a| a.posted).collect(alloc)?)
 }
 
-/// The law of `deliveries`: of the same logs it lists the same lines, with the same names in the
+/// The law of `delivered_lines`: of the same logs it lists the same lines, with the same names in the
 /// same order. The function does nothing; the law is its contract.
-pub fn delivery_laws()
+pub fn prove_delivered_lines_unique()
     ensures { DeliveriesAreOne }
 {}

@@ -24,8 +24,8 @@ pub const LOG_HEADER: &str = "hublog 3";
 /// ```rust
 /// let mut log = Log::new(alloc, AgentId(0));
 /// let payload = Payload::copy_of_parts(alloc, &[], &envelope.body)?;
-/// log.record_put(Posted::of(&envelope), Content::Payload(payload))?;
-/// log.record_closed(EndId(2))?;
+/// log.record_put(Posted::of_envelope(&envelope), Content::Payload(payload))?;
+/// log.record_end_closed(EndId(2))?;
 /// let verdict = check(alloc, &[log])?;
 /// ```
 #[derive(Debug, Drop)]
@@ -76,7 +76,7 @@ impl Log {
     }
 
     /// Whether the log has an entry that closes the end. It looks through all entries.
-    pub fn has_closed(&self, end: EndId) -> bool
+    pub fn has_closed_end(&self, end: EndId) -> bool
         ensures { result ≡ is_closed_by self.now.1 end.0 }
     {
         for entry in &self.entries {
@@ -121,7 +121,7 @@ impl Log {
     }
 
     /// Logs that the agent closed the end, which it did not log before. An `Err` changes nothing.
-    pub fn record_closed(&mut self, end: EndId) -> Result<(), OutOfMemory>
+    pub fn record_end_closed(&mut self, end: EndId) -> Result<(), OutOfMemory>
         requires end { end.0 ≤ MAX_END }
         requires first { is_closed_by self.old.1 end.0 ≡ false }
         ensures ok { OnOk result (self.new ≡ log_with self.old (Closed end)) }

@@ -58,13 +58,13 @@ fn log_line_in(alloc: Global, version: LogVersion, text: &str) -> Result<LogLine
     ensures memory { IfErr result (λ e. e ≡ LogError.OutOfMemory
         → log_reads_memory text.now ≡ true) }
 {
-    let (name, rest) = first_word(text)?;
-    log_line_beginning_with(alloc, version, name, rest)
+    let (name, rest) = word_and_rest(text)?;
+    parse_log_line_by_name(alloc, version, name, rest)
 }
 
 /// The log line that begins with the name. `rest` is what comes after the name and its space.
 #[tactic(auto, unfolding(crate::specs::LogLine::log_line_with))]
-fn log_line_beginning_with(
+fn parse_log_line_by_name(
     alloc: Global,
     version: LogVersion,
     name: &str,
@@ -97,7 +97,7 @@ fn adoption_in(text: &str) -> Result<(EndId, u32), LogError>
     ensures epoch { IfOk result (λ adoption. adoption.1 ≤ MAX_EPOCH) }
     ensures memory { IfErr result (λ e. e ≢ LogError.OutOfMemory) }
 {
-    let (end, epoch) = first_word(text)?;
+    let (end, epoch) = word_and_rest(text)?;
     let end = end_in(end)?;
     let epoch = epoch_in(epoch)?;
     Ok((end, epoch))
@@ -111,9 +111,9 @@ fn delivery_in(alloc: Global, version: LogVersion, text: &str) -> Result<Deliver
     ensures memory { IfErr result (λ e. e ≡ LogError.OutOfMemory
         → delivers_message text.now ≡ true) }
 {
-    let (end, rest) = first_word(text)?;
-    let (line, rest) = first_word(rest)?;
-    let (name, rest) = first_word(rest)?;
+    let (end, rest) = word_and_rest(text)?;
+    let (line, rest) = word_and_rest(rest)?;
+    let (name, rest) = word_and_rest(rest)?;
     let posted = posted_in(version, end, line, name)?;
     let content = content_in(alloc, version, rest)?;
     Ok(Delivery { posted, content })
@@ -171,7 +171,7 @@ fn payload_in(
 }
 
 /// The text up to the first space, and what comes after that.
-fn first_word(text: &str) -> Result<(&str, &str), LogError>
+fn word_and_rest(text: &str) -> Result<(&str, &str), LogError>
     ensures says { IsReadAs LogError.OutOfMemory (λ x. (x.0.now, x.1.now)) result
         (parts_in 32 text.now) }
     ensures parts { IfOk result (λ x. cut 32 text.now ≡ Some (x.0.now, x.1.now)) }

@@ -70,7 +70,7 @@ pub fn read_logs(alloc: Global, bytes: &[u8]) -> Result<Vec<Log>, (usize, LogErr
             return Ok(logs);
         }
         number += 1;
-        if let Err(error) = add_line(alloc, version, line, &mut logs, &mut closed) {
+        if let Err(error) = add_line_to_logs(alloc, version, line, &mut logs, &mut closed) {
             return Err((number, error));
         }
         rest = after;
@@ -79,7 +79,7 @@ pub fn read_logs(alloc: Global, bytes: &[u8]) -> Result<Vec<Log>, (usize, LogErr
 }
 
 /// Begins a log or adds an entry to the newest. `closed` has the ends that the logs close.
-fn add_line(
+fn add_line_to_logs(
     alloc: Global,
     version: LogVersion,
     line: &[u8],
@@ -119,7 +119,7 @@ fn add_entry(
     let Some(log) = logs.last_mut() else {
         return Err(LogError::BadLine);
     };
-    if !note_closing(&entry, closed)? {
+    if !insert_end_closed_by_entry(&entry, closed)? {
         return Err(LogError::BadLine);
     }
     log.append_entry(entry)?;
@@ -127,7 +127,10 @@ fn add_entry(
 }
 
 /// Adds the end that the entry closes, if it closes one. False where it was closed already.
-fn note_closing(entry: &LogEntry, closed: &mut BTreeSet<u32>) -> Result<bool, OutOfMemory>
+fn insert_end_closed_by_entry(
+    entry: &LogEntry,
+    closed: &mut BTreeSet<u32>,
+) -> Result<bool, OutOfMemory>
     ensures first { IfOk result
         (λ first. first ≡ not (closes_one (contains nat_cmp closed.old) entry.now)) }
     ensures closed { OnOk result ((end : ℕ) → contains nat_cmp closed.new end

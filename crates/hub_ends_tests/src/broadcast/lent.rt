@@ -89,7 +89,7 @@ fn a_roster_that_is_lent_joins_casts_and_leaves(rt: HostRuntime) {
     let mut own = Roster::new(rt.alloc());
     let shared = SharedRoster::new(rt.alloc());
     let is_right = casts_and_leaves(&rt, rt.alloc(), &mut own) == Some(true);
-    let is_alike = casts_and_leaves(&rt, rt.alloc(), &mut shared.as_locked()) == Some(true);
+    let is_alike = casts_and_leaves(&rt, rt.alloc(), &mut shared.as_lock()) == Some(true);
     drop(own);
     drop(shared);
     assert!(rt; is_right && is_alike);

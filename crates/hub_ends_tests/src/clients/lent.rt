@@ -2,7 +2,7 @@
 //! alike over both. What is told of the end is kept in a list.
 use hub_clients::{
     Directory, DirectoryError, Handed, HandedQueue, QueueList, close_handed_queues,
-    fetch_from_lent_map, keep_in_lent_map, open_queue_in_lent_list,
+    keep_in_lent_map, open_queue_in_lent_list, take_handed_queue_from_map,
 };
 use hub_depot::{Depot, Kept};
 use hub_envelope::{AgentId, EndId, MAX_LINES};
@@ -79,9 +79,9 @@ fn keeps_queues<L: Lends<Kept<Handed>>, R: Wait>(
     for end in 0..3 {
         keep_in_lent_map(rt, lender, queue(rt, alloc, end)?, AgentId(3)).ok()?;
     }
-    let strange = fetch_from_lent_map(rt, lender, EndId(1), AgentId(4));
-    let fetched = fetch_from_lent_map(rt, lender, EndId(1), AgentId(3));
-    let again = fetch_from_lent_map(rt, lender, EndId(1), AgentId(3));
+    let strange = take_handed_queue_from_map(rt, lender, EndId(1), AgentId(4));
+    let fetched = take_handed_queue_from_map(rt, lender, EndId(1), AgentId(3));
+    let again = take_handed_queue_from_map(rt, lender, EndId(1), AgentId(3));
     let is_right = strange.is_none() && fetched.is_some() && again.is_none();
     drop(strange);
     drop(fetched);
@@ -113,10 +113,10 @@ fn closes_all<R: Wait>(rt: &R, alloc: Global, mut waiting: Kept<Handed>) -> bool
 
 #[test]
 fn queues_wait_and_the_end_closes_them(rt: HostRuntime) {
-    let mut own = Kept::<Handed>::new(rt.alloc());
+    let mut own = Kept::<Handed>::empty(rt.alloc());
     let shared = Depot::<Handed>::new(rt.alloc());
     let is_right = keeps_queues(&rt, rt.alloc(), &mut own) == Some(true);
-    let is_alike = keeps_queues(&rt, rt.alloc(), &mut shared.as_locked()) == Some(true);
+    let is_alike = keeps_queues(&rt, rt.alloc(), &mut shared.as_lock()) == Some(true);
     let are_closed = closes_all(&rt, rt.alloc(), own)
         && closes_all(&rt, rt.alloc(), shared.into_kept());
     assert!(rt; is_right && is_alike && are_closed);

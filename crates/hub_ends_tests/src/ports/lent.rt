@@ -5,8 +5,8 @@ use hub_depot::{Depot, Kept};
 use hub_envelope::{AgentId, EndId, Envelope, Ports};
 use hub_locked::Lends;
 use hub_ports::{
-    ClosingStep, Closings, Hub, Noticed, Parcel, Port, Spent, close_all_ports_in_flight,
-    close_and_tell_hearer, send_with_ports, take_ports_from_flight,
+    ClosingStep, Closings, Hub, Noticed, Parcel, Port, Spent, close_and_sweep_flight_ports,
+    close_port_telling_each_step, send_with_ports, take_ports_from_flight,
 };
 use hub_queue::{Ends, Head, Mailbox, Onward, Point, Poster, Swept, Taker, Took};
 use hub_test_parts::{bell, body, draft, take};
@@ -78,9 +78,9 @@ fn flies<L: Lends<Kept<Port>>, R: Wait>(
 #[test]
 fn a_port_in_flight_is_found_once(rt: HostRuntime) {
     let hub = Hub::new(rt.alloc());
-    let mut own = Kept::<Port>::new(rt.alloc());
+    let mut own = Kept::<Port>::empty(rt.alloc());
     let is_right = flies(&rt, rt.alloc(), &hub, &mut own) == Some(true);
-    let is_alike = flies(&rt, rt.alloc(), &hub, &mut hub.flight.as_locked()) == Some(true);
+    let is_alike = flies(&rt, rt.alloc(), &hub, &mut hub.flight.as_lock()) == Some(true);
     drop(own);
     drop(hub);
     assert!(rt; is_right && is_alike);
@@ -95,11 +95,18 @@ fn closes<R: Wait>(rt: &R, alloc: Global, flight: &mut Kept<Port>) -> Option<boo
     let (near, far) = entangled(alloc, &mut ends)?;
     flight.put(far).ok()?;
     let mut emptied = Vec::<Emptied>::new(alloc);
-    let is_closed = close_all_ports_in_flight(rt, alloc, &yard, None, flight, &mut emptied).is_ok();
+    let is_closed = close_and_sweep_flight_ports(
+        rt,
+        alloc,
+        &yard,
+        None,
+        flight,
+        &mut emptied,
+    ).is_ok();
     let is_told = matches!(emptied.as_slice(), [(swept, Some((_, Noticed::Put(_))))]
         if swept.id() == EndId(1));
     let mut steps = Vec::<ClosingStep>::new(alloc);
-    let closed = close_and_tell_hearer(rt, alloc, &yard, near, &mut steps);
+    let closed = close_port_telling_each_step(rt, alloc, &yard, near, &mut steps);
     let is_in_order = matches!(
         steps.as_slice(),
         [
@@ -115,7 +122,7 @@ fn closes<R: Wait>(rt: &R, alloc: Global, flight: &mut Kept<Port>) -> Option<boo
 
 #[test]
 fn each_step_of_a_closing_is_told(rt: HostRuntime) {
-    let mut flight = Kept::<Port>::new(rt.alloc());
+    let mut flight = Kept::<Port>::empty(rt.alloc());
     let is_right = closes(&rt, rt.alloc(), &mut flight) == Some(true);
     drop(flight);
     assert!(rt; is_right);
@@ -159,10 +166,10 @@ fn hops<L: Lends<Kept<Onward>>, R: Wait>(rt: &R, alloc: Global, yard: &mut L) ->
 
 #[test]
 fn a_line_goes_on_over_a_yard_that_is_lent(rt: HostRuntime) {
-    let mut own = Kept::<Onward>::new(rt.alloc());
+    let mut own = Kept::<Onward>::empty(rt.alloc());
     let shared = Depot::<Onward>::new(rt.alloc());
     let is_right = hops(&rt, rt.alloc(), &mut own) == Some(true);
-    let is_alike = hops(&rt, rt.alloc(), &mut shared.as_locked()) == Some(true);
+    let is_alike = hops(&rt, rt.alloc(), &mut shared.as_lock()) == Some(true);
     drop(own);
     drop(shared);
     assert!(rt; is_right && is_alike);

@@ -15,7 +15,7 @@ loop-subscription-preserved g c =
       | then-is_destination w ↦
           let last = last_draft _ _ _ _ _ w.pop.ensures.items w.unwrap-draft.ensures kept.same in
           let goes : is_destination c.args.source.now c.subscription-item.result ≡ true = ap (is_destination c.args.source.now) c.subscription-item.is ∙ sym c.is_destination.ensures ∙ w.if-is_destination.true in
-          let delivered : IsDelivered c.subscription-item.result w.post_draft-outcome.new.self w.unwrap-draft.result w.post_draft-outcome.result = subst (λ r. IsDelivered r w.post_draft-outcome.new.self w.unwrap-draft.result w.post_draft-outcome.result) (sym c.subscription-item.is) w.post_draft-outcome.ensures in
+          let delivered : IsDelivered c.subscription-item.result w.post_draft_to_member-outcome.new.self w.unwrap-draft.result w.post_draft_to_member-outcome.result = subst (λ r. IsDelivered r w.post_draft_to_member-outcome.new.self w.unwrap-draft.result w.post_draft_to_member-outcome.result) (sym c.subscription-item.is) w.post_draft_to_member-outcome.ensures in
           let one = ap (λ o. length (option_to_list o)) w.unwrap-draft.ensures in
           let drafts_len = ap (λ v. vec_len v) w.drafts-is in
           let fewer : vec_len c.if-is_destination.drafts + 1 ≡ vec_len c.loop-subscription.drafts = omega (arith, w.pop.ensures.len, one, drafts_len) in

@@ -6,7 +6,7 @@ use Rattle.hub_loop.proofs.serving.ask_end_at_key.Goals as goal
 pub returns-in-Some : goal.returns-in-Some
 returns-in-Some g c =
     let was = sym c.get_mut.ensures.value ∙ ap option_copied_mut c.in-Some.is in
-    (c.ask.result, taken-there c.args.held.now c.args.key c.in-Some.held.now c.ask.new.self c.args.steps.now c.ask.new.steps c.ask.result was c.ask.ensures, c.from_answer.ensures)
+    (c.take_past_emptied_queues.result, taken-there c.args.held.now c.args.key c.in-Some.held.now c.take_past_emptied_queues.new.self c.args.steps.now c.take_past_emptied_queues.new.steps c.take_past_emptied_queues.result was c.take_past_emptied_queues.ensures, c.from_answer.ensures)
 
 pub returns-in-None : goal.returns-in-None
 returns-in-None g c =

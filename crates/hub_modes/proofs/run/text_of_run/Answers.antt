@@ -15,4 +15,4 @@ returns c =
     let closed = c.in_ok-push_str.ensures.bytes ∙ ap (λ xs. string_bytes c.write_deliveries.new.text ++ xs) c.deref-2.ensures in
     whole c.args.logs.now c.in_ok-verdict.status lines verdict (string_bytes c.push_str.new.self) c.in_ok-lines.ensures c.in_ok-verdict.ensures.line c.in_ok-verdict.ensures.reached
     (joined (codes "hublog 3\n") (flat_map log_text c.args.logs.now) (codes "deliveries\n") (delivered_text lines) verdict _ _ _ _ _ _
-    c.new-text.ensures.bytes c.in_ok-writeln.ensures.bytes c.in_ok-write_logs.ensures c.in_ok-writeln-2.ensures.bytes told closed)
+    c.new-text.ensures.bytes c.in_ok-writeln.ensures.bytes c.in_ok-append_logs_as_text.ensures c.in_ok-writeln-2.ensures.bytes told closed)

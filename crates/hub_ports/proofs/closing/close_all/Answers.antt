@@ -18,5 +18,5 @@ loop-port-preserved g c =
       left = next_left c.args.ports.items c.loop-port.yielded (into_iter_items c.loop-port.port-iterator) (into_iter_items c.next.new.self) c.in-Some.port kept.left c.in-Some.ensures.steps.0;
       closed = subst (AreDoomed (c.loop-port.yielded ++ c.in-Some.port ∷ [])) (sym c.push.ensures)
           (doomed_more c.loop-port.yielded c.loop-port.closings c.in-Some.port _ kept.closed
-          (doomed_one c.in-Some.port c.close_port-grave.result.0 c.close_port-grave.result.1 _ _ _ c.into_queue_witness.result c.new-closed.ensures c.id-end.ensures c.close_port-grave.ensures.grave c.into_queue_witness.ensures c.close_port-grave.ensures.notice));
+          (doomed_one c.in-Some.port c.put_notice_and_close_port-grave.result.0 c.put_notice_and_close_port-grave.result.1 _ _ _ c.into_queue_witness.result c.new-closed.ensures c.id-end.ensures c.put_notice_and_close_port-grave.ensures.grave c.into_queue_witness.ensures c.put_notice_and_close_port-grave.ensures.notice));
     }

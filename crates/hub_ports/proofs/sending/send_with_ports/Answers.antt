@@ -21,4 +21,4 @@ returns-clause-doomed g c =
     let peer = c.args.line.now.name.end in
     let missed : list_any (is_numbered peer) ports ≡ false =
     sym (c.holds.ensures ∙ ap (λ (k : Key). list_any (is_numbered k.end) c.as_slice.result.now) c.name.ensures ∙ ap (list_any (is_numbered peer)) c.as_slice.ensures.value) ∙ c.if-holds.false in
-    (λ doomed. absurd (c.post_with_ports.ensures.doomed doomed), λ holds. let wrong : true ≡ false = sym (listed-found peer ports holds.1) ∙ missed in cc)
+    (λ doomed. absurd (c.put_in_flight_and_post.ensures.doomed doomed), λ holds. let wrong : true ≡ false = sym (listed-found peer ports holds.1) ∙ missed in cc)

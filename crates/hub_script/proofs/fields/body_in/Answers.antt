@@ -20,4 +20,4 @@ returns c =
     let same = rw c.unwrap.ensures at c.from_utf8.ensures.cases in
     let text : c.unwrap.result.now ≡ print (json_tokens value) = same.0 ∙ c.deref.ensures.value ∙ c.in_ok-bytes.ensures.text in
     let reads : read c.unwrap.result.now ≡ Some (data_of value) = ap read text ∙ reads_back value writable in
-    subst (IsReadAs OutOfMemory (λ x. x) c.read_body.result) (sym (answered c.args.name.now (data_in c.args.line.now) (data_of value) c.unwrap.result.now c.in_ok-value.ensures.says reads)) c.read_body.ensures
+    subst (IsReadAs OutOfMemory (λ x. x) c.parse_body.result) (sym (answered c.args.name.now (data_in c.args.line.now) (data_of value) c.unwrap.result.now c.in_ok-value.ensures.says reads)) c.parse_body.ensures

@@ -17,5 +17,5 @@ loop-end-preserved c =
 
 pub returns : goal.returns
 returns c =
-    subst (ComputesAt c.args.core.now c.loop-end.core (cast_each c.args.memory_refused c.args.body.now c.args.ends.now)) (sym c.of_list.ensures)
+    subst (ComputesAt c.args.core.now c.loop-end.core (cast_each c.args.memory_refused c.args.body.now c.args.ends.now)) (sym c.from_vec.ensures)
     (cast_done c.loop-end.end-index c.args.core.now c.loop-end.core c.args.memory_refused c.args.body.now c.args.ends.now c.loop-end.posts.items (drop_of_length-le c.args.ends.now c.loop-end-test.false) c.loop-end.invariant)

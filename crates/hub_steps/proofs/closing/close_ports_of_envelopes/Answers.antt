@@ -12,5 +12,5 @@ loop-envelope-preserved c =
     let vs = c.args.envelopes.now in
     let v = c.envelope-item.result in
     let cut : drop i vs ≡ v ∷ drop (suc i) vs = drop-cons vs i v c.loop-envelope-test.true ∙ ap (λ u. u ∷ drop (suc i) vs) (sym c.envelope-item.is) in
-    ports_more i c.args.core.now c.loop-envelope.core c.close_all_ends.new.core refused vs v cut c.loop-envelope.invariant
-    (subst (λ es. ComputesAt c.loop-envelope.core c.close_all_ends.new.core (close_each refused es) tt) c.as_slice.ensures.listed c.in_ok-close_all_ends.ensures)
+    ports_more i c.args.core.now c.loop-envelope.core c.close_listed_ends.new.core refused vs v cut c.loop-envelope.invariant
+    (subst (λ es. ComputesAt c.loop-envelope.core c.close_listed_ends.new.core (close_each refused es) tt) c.as_slice.ensures.listed c.in_ok-close_listed_ends.ensures)

@@ -4,7 +4,7 @@ use Rattle.hub_steps.proofs.perform.perform_rarer.Goals as goal
 
 pub returns-in-Step-clause-performed : goal.returns-in-Step-clause-performed
 returns-in-Step-clause-performed c =
-    performed c.args.core.now c.take_step_and_show.new.core c.args.lives.now c.args.line (command.Step c.in-Step.action) c.take_step_and_show.result c.in-Step.is c.take_step_and_show.ensures.shown
+    performed c.args.core.now c.take_step_and_return_shown.new.core c.args.lives.now c.args.line (command.Step c.in-Step.action) c.take_step_and_return_shown.result c.in-Step.is c.take_step_and_return_shown.ensures.shown
 
 pub returns-in-At-clause-performed : goal.returns-in-At-clause-performed
 returns-in-At-clause-performed c =
@@ -12,4 +12,4 @@ returns-in-At-clause-performed c =
 
 pub returns-in-Loaded-clause-performed : goal.returns-in-Loaded-clause-performed
 returns-in-Loaded-clause-performed c =
-    performed c.args.core.now c.start_client_queue.new.core c.args.lives.now c.args.line (command.Loaded c.in-Loaded.end) c.start_client_queue.result c.in-Loaded.is c.start_client_queue.ensures.shown
+    performed c.args.core.now c.start_if_client_queue.new.core c.args.lives.now c.args.line (command.Loaded c.in-Loaded.end) c.start_if_client_queue.result c.in-Loaded.is c.start_if_client_queue.ensures.shown

@@ -22,13 +22,13 @@ returns-in-Good c =
     (λ shown did. post_listed c.args.core.now c.enter_push_and_leave.new.core refused ports c.as_slice-listed.result.now c.args.body c.args.sender c.may_post.result c.check_port_list.result Good shown c.may_post.ensures c.if-not-may_post.false few c.as_slice-listed.ensures c.check_port_list.ensures c.in-Good.is did)
     c.enter_push_and_leave.result c.enter_push_and_leave.ensures
 
-pub returns-in_ok-close_all_ends-in-HoldsTarget : goal.returns-in_ok-close_all_ends-in-HoldsTarget
-returns-in_ok-close_all_ends-in-HoldsTarget c =
+pub returns-in_ok-close_listed_ends-in-HoldsTarget : goal.returns-in_ok-close_listed_ends-in-HoldsTarget
+returns-in_ok-close_listed_ends-in-HoldsTarget c =
     let refused = c.args.memory_refused in
     let ports = c.args.ports in
     let few : length ports ≤ 16 = subst (λ ps. length ps ≤ 16) c.as_slice-listed.ensures (omega arith) in
-    post_listed c.args.core.now c.close_all_ends.new.core refused ports c.as_slice-listed.result.now c.args.body c.args.sender c.may_post.result c.check_port_list.result HoldsTarget Doomed c.may_post.ensures c.if-not-may_post.false few c.as_slice-listed.ensures c.check_port_list.ensures c.in-HoldsTarget.is
-    (doomed c.args.core.now c.close_all_ends.new.core refused ports c.as_slice-listed.result.now c.args.body c.args.sender c.as_slice-listed.ensures c.in_ok-close_all_ends-in-HoldsTarget.ensures)
+    post_listed c.args.core.now c.close_listed_ends.new.core refused ports c.as_slice-listed.result.now c.args.body c.args.sender c.may_post.result c.check_port_list.result HoldsTarget Doomed c.may_post.ensures c.if-not-may_post.false few c.as_slice-listed.ensures c.check_port_list.ensures c.in-HoldsTarget.is
+    (doomed c.args.core.now c.close_listed_ends.new.core refused ports c.as_slice-listed.result.now c.args.body c.args.sender c.as_slice-listed.ensures c.in_ok-close_listed_ends-in-HoldsTarget.ensures)
 
 pub returns-in-Bad : goal.returns-in-Bad
 returns-in-Bad c =

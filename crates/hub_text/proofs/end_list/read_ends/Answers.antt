@@ -18,7 +18,7 @@ returns-then-not-branch c =
     let more : split_has_more c.into_iter-number-iterator.result ≡ true = cc in
     let at : split_pattern c.into_iter-number-iterator.result ≡ 44 = cc in
     let turn = YieldsList-turn (YieldsList-from_str_split 44 list (lit< tt) text more at) c.loop-number.yielded _ c.loop-number.yielded_by _ _ c.in-Some.number c.in-Some.is c.next.ensures.steps in
-    let none = subst (λ b. Adds c.args.max c.loop-number.ends c.in-Some.number.now b c.add_end.new.ends) c.if-not-branch.true c.in_ok-add_end.ensures in
+    let none = subst (λ b. Adds c.args.max c.loop-number.ends c.in-Some.number.now b c.read_and_add_end.new.ends) c.if-not-branch.true c.in_ok-read_and_add_end.ensures in
     sym (refused c.args.max list c.loop-number.ends (length c.loop-number.yielded) c.in-Some.number.now other turn c.loop-number.invariant none)
 
 pub loop-number-preserved : goal.loop-number-preserved
@@ -28,9 +28,9 @@ loop-number-preserved c =
     let more : split_has_more c.into_iter-number-iterator.result ≡ true = cc in
     let at : split_pattern c.into_iter-number-iterator.result ≡ 44 = cc in
     let turn = YieldsList-turn (YieldsList-from_str_split 44 list (lit< tt) text more at) c.loop-number.yielded _ c.loop-number.yielded_by _ _ c.in-Some.number c.in-Some.is c.next.ensures.steps in
-    let added = subst (λ b. Adds c.args.max c.loop-number.ends c.in-Some.number.now b c.add_end.new.ends) c.if-not-branch.false c.in_ok-add_end.ensures in
-    subst (ReadSoFar c.args.max list c.add_end.new.ends) (sym (length_push c.loop-number.yielded c.in-Some.number))
-    (one_more c.args.max list c.loop-number.ends c.add_end.new.ends (length c.loop-number.yielded) c.in-Some.number.now turn c.loop-number.invariant added)
+    let added = subst (λ b. Adds c.args.max c.loop-number.ends c.in-Some.number.now b c.read_and_add_end.new.ends) c.if-not-branch.false c.in_ok-read_and_add_end.ensures in
+    subst (ReadSoFar c.args.max list c.read_and_add_end.new.ends) (sym (length_push c.loop-number.yielded c.in-Some.number))
+    (one_more c.args.max list c.loop-number.ends c.read_and_add_end.new.ends (length c.loop-number.yielded) c.in-Some.number.now turn c.loop-number.invariant added)
 
 pub returns : goal.returns
 returns c =

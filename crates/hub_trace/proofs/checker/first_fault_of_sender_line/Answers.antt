@@ -7,8 +7,8 @@ use Rattle.hub_trace.specs.Views.{delivery_of, receipt_of}
 use Rattle.hub_trace.proofs.Faults.{clean_from_right, receipt_at, right_more, all_right, noticed_more}
 use Rattle.hub_trace.proofs.checker.first_fault_of_sender_line.Goals as goal
 
-pub fault_kind_of-kind-requires : goal.fault_kind_of-kind-requires
-fault_kind_of-kind-requires c = c.loop-place.invariant.noticed ∙ ap has_notice (take-map receipt_of c.loop-place.place c.args.got.now)
+pub fault_kind_of_arrival-kind-requires : goal.fault_kind_of_arrival-kind-requires
+fault_kind_of_arrival-kind-requires c = c.loop-place.invariant.noticed ∙ ap has_notice (take-map receipt_of c.loop-place.place c.args.got.now)
 
 pub returns-then-not-is_arrival_right : goal.returns-then-not-is_arrival_right
 returns-then-not-is_arrival_right c =
@@ -24,7 +24,7 @@ returns-then-not-is_arrival_right c =
       at = receipt_at got place c.index-got-place.result below c.index-got-place.is;
       wrong = λ h. let yes = c.is_arrival_right.ensures.1 (h.0, noticed ∙ h.1, h.2) in let no = c.if-not-is_arrival_right.true in cc;
       first = c.loop-place.invariant.right;
-      kind_is = c.fault_kind_of-kind.ensures ∙ ap (λ (l : List Receipt). kind_at put l (length (take place got)) at) (sym (take-map receipt_of place got)) ∙ ap (λ (n : ℕ). kind_at put (take place (map receipt_of got)) n at) here;
+      kind_is = c.fault_kind_of_arrival-kind.ensures ∙ ap (λ (l : List Receipt). kind_at put l (length (take place got)) at) (sym (take-map receipt_of place got)) ∙ ap (λ (n : ℕ). kind_at put (take place (map receipt_of got)) n at) here;
     }
 
 pub loop-place-preserved : goal.loop-place-preserved

@@ -83,10 +83,10 @@ loop-rest-preserved c =
     record {
       some = omega arith;
       room = omega (arith, c.split_text_line-in-loop-rest.ensures.shorter);
-      closed = c.in_default-add_line.ensures.closed;
-      within = c.in_default-add_line.ensures.within c.loop-rest.invariant.within;
+      closed = c.in_default-add_line_to_logs.ensures.closed;
+      within = c.in_default-add_line_to_logs.ensures.within c.loop-rest.invariant.within;
       gone = one_gone c.args.bytes.now c.loop-rest.number c.loop-rest.rest.now line c.split_text_line-in-loop-rest.result.1.now c.loop-rest.invariant.gone c.split_text_line-in-loop-rest.ensures.line;
-      so_far = one_more c.in-Some.version c.args.bytes.now c.loop-rest.number c.loop-rest.logs.items c.add_line.new.logs.items c.loop-rest.rest.now line c.split_text_line-in-loop-rest.result.1.now c.loop-rest.invariant.so_far c.split_text_line-in-loop-rest.ensures.line goes_on c.in_default-add_line.ensures.says;
+      so_far = one_more c.in-Some.version c.args.bytes.now c.loop-rest.number c.loop-rest.logs.items c.add_line_to_logs.new.logs.items c.loop-rest.rest.now line c.split_text_line-in-loop-rest.result.1.now c.loop-rest.invariant.so_far c.split_text_line-in-loop-rest.ensures.line goes_on c.in_default-add_line_to_logs.ensures.says;
     }
 
 pub returns-clause-reads : goal.returns-clause-reads

@@ -14,7 +14,7 @@ returns-in-Post-clause-ok g c =
 
 pub returns-in-Send-clause-ok : goal.returns-in-Send-clause-ok
 returns-in-Send-clause-ok g c =
-    subst (λ action. OnOk c.send.result (Acts action c.args.self.now c.send.new.self)) (sym c.in-Send.is) (send_acts c.send.result _ _ _ c.args.self.now c.send.new.self c.send.ensures.sent c.send.ensures.rest)
+    subst (λ action. OnOk c.send_to_queue.result (Acts action c.args.self.now c.send_to_queue.new.self)) (sym c.in-Send.is) (send_acts c.send_to_queue.result _ _ _ c.args.self.now c.send_to_queue.new.self c.send_to_queue.ensures.sent c.send_to_queue.ensures.rest)
 
 pub returns-in-Cast-clause-ok : goal.returns-in-Cast-clause-ok
 returns-in-Cast-clause-ok g c =
@@ -66,10 +66,10 @@ pub returns-in-Event-clause-ok : goal.returns-in-Event-clause-ok
 returns-in-Event-clause-ok g c =
     let self = c.self-in-Event.inside in
     let was = c.self-in-Event.view_is in
-    let now : AgentState = record { notes = self.scribe; ends = self.event_loop.holding.ends.held; kept = self.event_loop.kept; order = self.order; peers = self.peers.items; life = c.apply_life_event.new.life; roster = _ } in
+    let now : AgentState = record { notes = self.scribe; ends = self.event_loop.holding.ends.held; kept = self.event_loop.kept; order = self.order; peers = self.peers.items; life = c.apply_worker_life_event.new.life; roster = _ } in
     subst (λ action. Acts action c.args.self.now now) (sym c.in-Event.is)
     (lived_acts c.in-Event.event c.args.self.now now (
-    λ i. record { notes = (was i).notes; ends = (was i).ends; kept = (was i).kept; order = (was i).order; peers = (was i).peers; life = (c.apply_life_event.ensures ∙ ap (λ (a : AgentState). option_map (λ p. after p c.in-Event.event) a.life) was) i; roster = (was i).roster }
+    λ i. record { notes = (was i).notes; ends = (was i).ends; kept = (was i).kept; order = (was i).order; peers = (was i).peers; life = (c.apply_worker_life_event.ensures ∙ ap (λ (a : AgentState). option_map (λ p. after p c.in-Event.event) a.life) was) i; roster = (was i).roster }
     ))
 
 pub returns-in-Hand-clause-ok : goal.returns-in-Hand-clause-ok

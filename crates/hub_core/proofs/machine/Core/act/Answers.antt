@@ -20,7 +20,7 @@ pub returns-in-Member : goal.returns-in-Member
 returns-in-Member c = told_or c.args.step (action.Member c.in-Member.agent c.in-Member.name) _ _ _ c.in-Member.is refl c.make_member.ensures (λ same. same) (λ o p. member_took c.in-Member.agent c.in-Member.name c.args.step.memory_refused _ _ o p.0 p.1 p.2)
 
 pub returns-in-Cast : goal.returns-in-Cast
-returns-in-Cast c = told_or c.args.step (action.Cast c.in-Cast.end c.in-Cast.ports c.in-Cast.body) _ _ _ c.in-Cast.is refl c.cast.ensures (same_content _ _) (λ o p. took_where _ _ c.args.self.now _ _ p.1 (λ f s. p.0 ∙ cast_fits c.in-Cast.end c.in-Cast.ports s) (λ f. cast_changes c.in-Cast.end c.in-Cast.ports c.in-Cast.body _))
+returns-in-Cast c = told_or c.args.step (action.Cast c.in-Cast.end c.in-Cast.ports c.in-Cast.body) _ _ _ c.in-Cast.is refl c.begin_cast.ensures (same_content _ _) (λ o p. took_where _ _ c.args.self.now _ _ p.1 (λ f s. p.0 ∙ cast_fits c.in-Cast.end c.in-Cast.ports s) (λ f. cast_changes c.in-Cast.end c.in-Cast.ports c.in-Cast.body _))
 
 pub returns-in-Part : goal.returns-in-Part
 returns-in-Part c = told c.args.step (action.Part c.in-Part.end) _ _ _ c.in-Part.is (part_took c.in-Part.end c.args.step.memory_refused _ _ _ c.leave_roster.ensures.0 c.leave_roster.ensures.1 c.leave_roster.ensures.2)
@@ -50,13 +50,13 @@ pub returns-in-Start : goal.returns-in-Start
 returns-in-Start c = told c.args.step (action.Start c.in-Start.end) _ _ _ c.in-Start.is (took_by _ _ c.args.self.now _ _ c.start.ensures.1 refl (λ f s. c.start.ensures.0 ∙ ap (λ g. start_answer g c.in-Start.end) (seen_is s)) (λ f. start_changes c.in-Start.end _))
 
 pub returns-in-Look : goal.returns-in-Look
-returns-in-Look c = told c.args.step (action.Look c.in-Look.end) _ _ _ c.in-Look.is (took_by _ _ c.args.self.now _ _ c.mark_next_queue_clear.ensures.1 refl (λ f s. c.mark_next_queue_clear.ensures.0 ∙ look_fits c.in-Look.end s) (λ f. look_changes c.in-Look.end _))
+returns-in-Look c = told c.args.step (action.Look c.in-Look.end) _ _ _ c.in-Look.is (took_by _ _ c.args.self.now _ _ c.mark_next_queue_if_clear.ensures.1 refl (λ f s. c.mark_next_queue_if_clear.ensures.0 ∙ look_fits c.in-Look.end s) (λ f. look_changes c.in-Look.end _))
 
 pub returns-in-Order : goal.returns-in-Order
 returns-in-Order c = told c.args.step (action.Order c.in-Order.agent) _ _ _ c.in-Order.is (took_by _ _ c.args.self.now _ _ c.request_agent_stop.ensures.1 refl (λ f s. c.request_agent_stop.ensures.0 ∙ ap (λ g. order_answer g c.in-Order.agent) (seen_is s)) (λ f. order_changes c.in-Order.agent _))
 
 pub returns-in-Enter : goal.returns-in-Enter
-returns-in-Enter c = told c.args.step (action.Enter c.in-Enter.sender) _ _ _ c.in-Enter.is (took_by _ _ c.args.self.now _ _ c.enter_queue.ensures.1 refl (λ f s. c.enter_queue.ensures.0 ∙ ap (λ g. enter_answer g c.in-Enter.sender) (seen_is s)) (λ f. enter_changes c.in-Enter.sender _))
+returns-in-Enter c = told c.args.step (action.Enter c.in-Enter.sender) _ _ _ c.in-Enter.is (took_by _ _ c.args.self.now _ _ c.let_poster_enter_queue.ensures.1 refl (λ f s. c.let_poster_enter_queue.ensures.0 ∙ ap (λ g. enter_answer g c.in-Enter.sender) (seen_is s)) (λ f. enter_changes c.in-Enter.sender _))
 
 pub returns-in-Close : goal.returns-in-Close
 returns-in-Close c = told c.args.step (action.Close c.in-Close.end) _ _ _ c.in-Close.is (took_by _ _ c.args.self.now _ _ c.close.ensures.1 refl (λ f s. c.close.ensures.0 ∙ ap (λ g. close_answer g c.in-Close.end) (seen_is s)) (λ f. close_changes c.in-Close.end _))

@@ -12,25 +12,25 @@ pub returns-in-Ok-clause-adopted : goal.returns-in-Ok-clause-adopted
 returns-in-Ok-clause-adopted g c =
     let p = c.unwrap-arrived.result in
     let q = c.in-Ok.port in
-    let same = c.prepare.ensures.same in
-    (p, search rules, inl (q, c.in-Ok.ensures, holds-after c.args.self.now.ends.held c.prepare.new.self.ends.held c.put.new.self.held (Port q) same.held c.put.ensures.held, same.closed, search rules))
+    let same = c.reserve_and_clone_bell.ensures.same in
+    (p, search rules, inl (q, c.in-Ok.ensures, holds-after c.args.self.now.ends.held c.reserve_and_clone_bell.new.self.ends.held c.hold_reserved.new.self.held (Port q) same.held c.hold_reserved.ensures.held, same.closed, search rules))
 
 pub returns-in-Ok-clause-marks : goal.returns-in-Ok-clause-marks
-returns-in-Ok-clause-marks g c = kept_after c.prepare.ensures.marks c.put.ensures.marks
+returns-in-Ok-clause-marks g c = kept_after c.reserve_and_clone_bell.ensures.marks c.hold_reserved.ensures.marks
 
 pub returns-in-Err-OutOfMemory-default-clause-adopted : goal.returns-in-Err-OutOfMemory-default-clause-adopted
-returns-in-Err-OutOfMemory-default-clause-adopted g c = (search rules, c.prepare.ensures.same, search rules)
+returns-in-Err-OutOfMemory-default-clause-adopted g c = (search rules, c.reserve_and_clone_bell.ensures.same, search rules)
 
 pub returns-in-Err-TooManyMoves-default-clause-adopted : goal.returns-in-Err-TooManyMoves-default-clause-adopted
 returns-in-Err-TooManyMoves-default-clause-adopted g c =
     let p = c.unwrap-arrived.result in
     let error = c.in-Err-TooManyMoves-default.field-0-0 in
     let old = c.args.self.now in
-    let mid = c.prepare.new.self in
+    let mid = c.reserve_and_clone_bell.new.self in
     let unfit : IsUnfit error = search rules in
     let came : c.in-Err-TooManyMoves-default.arrived ≡ p = c.in-Err-TooManyMoves-default.ensures.1 in
     let received = subst (λ q. IsReceived p (Err (error, q))) came c.in-Err-TooManyMoves-default.ensures in
     let closed = c.close_port-grave in
     let buried = subst (λ q. IsPortBuried q (closed_of mid.closed) (closed_of c.add_closed_port.new.self)) (c.into_port.ensures ∙ came) (closed.result.0, closed.result.1, closed.ensures.grave, closed.ensures.told, c.add_closed_port.ensures.graves, c.add_closed_port.ensures.noticed) in
-    let same = c.prepare.ensures.same in
+    let same = c.reserve_and_clone_bell.ensures.same in
     (p, search rules, inr (error, unfit, received, same.held, buried-after p (closed_of old.closed) (closed_of mid.closed) (closed_of c.add_closed_port.new.self) same.closed buried, search rules))

@@ -1,12 +1,20 @@
+use Rattle.std.proofs.Common.{subst}
+use Rattle.hub_loop.specs.Adopting.{HoldsMore}
+use Rattle.hub_loop.specs.Holding.{held_queue}
 use Rattle.hub_loop.proofs.Delivers.{holds-after}
 use Rattle.hub_loop.proofs.Marks.{kept_after}
 use Rattle.hub_loop.proofs.ends.Holding.adopt_queue.Goals as goal
 
-pub returns-in-Ok-adopt_handed_queue-clause-ok : goal.returns-in-Ok-adopt_handed_queue-clause-ok
-returns-in-Ok-adopt_handed_queue-clause-ok g c =
-    let held = c.in-Ok-adopt_handed_queue.held in
-    let same = c.prepare.ensures.same in
-    (held, c.in-Ok-adopt_handed_queue.ensures.ok, holds-after c.args.self.now.ends.held c.prepare.new.self.ends.held c.put.new.self.held held same.held c.put.ensures.held, same.closed)
+pub returns-in-Ok-adopt-clause-ok : goal.returns-in-Ok-adopt-clause-ok
+returns-in-Ok-adopt-clause-ok g c =
+    let queue = c.in-Ok-adopt.queue in
+    let same = c.reserve_and_clone_bell.ensures.same in (
+      queue,
+      c.in-Ok-adopt.ensures,
+      holds-after c.args.self.now.ends.held c.reserve_and_clone_bell.new.self.ends.held c.hold_reserved.new.self.held (held_queue queue) same.held
+          (subst (HoldsMore c.reserve_and_clone_bell.new.self.ends.held c.hold_reserved.new.self.held) c.from.ensures c.hold_reserved.ensures.held),
+      same.closed,
+    )
 
-pub returns-in-Ok-adopt_handed_queue-clause-marks : goal.returns-in-Ok-adopt_handed_queue-clause-marks
-returns-in-Ok-adopt_handed_queue-clause-marks g c = kept_after c.prepare.ensures.marks c.put.ensures.marks
+pub returns-in-Ok-adopt-clause-marks : goal.returns-in-Ok-adopt-clause-marks
+returns-in-Ok-adopt-clause-marks g c = kept_after c.reserve_and_clone_bell.ensures.marks c.hold_reserved.ensures.marks

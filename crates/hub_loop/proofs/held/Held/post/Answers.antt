@@ -13,4 +13,4 @@ returns-in-Port-clause-posted g c =
 
 pub returns-in-Line-clause-posted : goal.returns-in-Line-clause-posted
 returns-in-Line-clause-posted g c =
-    (c.in-Line.line, c.send_parcel.new.line, ap stand_held c.in-Line.is, c.send_parcel.ensures.sent, sym (ap (λ h. at_stand h c.send_parcel.new.line) c.in-Line.is))
+    (c.in-Line.line, c.send_parcel_over_line.new.line, ap stand_held c.in-Line.is, c.send_parcel_over_line.ensures.sent, sym (ap (λ h. at_stand h c.send_parcel_over_line.new.line) c.in-Line.is))

@@ -20,9 +20,9 @@ returns c =
     let names = c.self.inside.names.items in
     let here : ClearBetween words c.args.key (c.args.key / 64 * 64 + 64) = search rules in
     let later : IsFirstFrom names (c.args.key / 64 + 1) c.in_ok-place.place = search rules in
-    let found : Option ℕ = c.first_set_bit_in_word-2.result in
+    let found : Option ℕ = c.next_set_bit_in_word-2.result in
     let some : (key : ℕ) → found ≡ Some key → (key / 64 ≡ c.in_ok-place.place) × IsFirstFrom words (c.in_ok-place.place * 64 + 0) key = λ key is. search rules in
     let none : found ≡ None → slice_index words c.in_ok-place.place ≡ 0 = λ is. search rules in
     let view : words ≡ c.args.self.now = search rules in
-    subst (λ m. IsNextMarked m c.args.key c.first_set_bit_in_word-2.result) view
+    subst (λ m. IsNextMarked m c.args.key c.next_set_bit_in_word-2.result) view
     (next-by words names c.args.key (c.args.key / 64) c.in_ok-place.place found c.self.invariant (omega arith) here later some none)

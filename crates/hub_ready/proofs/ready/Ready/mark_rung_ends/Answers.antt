@@ -58,40 +58,40 @@ groups-preserved c =
 
 pub returns-clause-found : goal.returns-clause-found
 returns-clause-found c =
-    let taken = c.take_names-names.ensures in
+    let taken = c.take_rung_groups-names.ensures in
     let kept = c.groups.invariant in
     let steps = kept.found.0 in
     let none : c.groups.left ≡ 0 = search rules in (
-      taking names_word taken.1.0 c.take_names-names.result ++ steps,
-      stepped-both _ c.take_names-names.new.self _ (taking names_word taken.1.0 c.take_names-names.result) steps (taken.0, taken.1.1) kept.found.1,
-      all-found c.take_names-names.result taken.1.0 c.groups.self.listed.items c.groups.self.marks steps taken.1.2
+      taking names_word taken.1.0 c.take_rung_groups-names.result ++ steps,
+      stepped-both _ c.take_rung_groups-names.new.self _ (taking names_word taken.1.0 c.take_rung_groups-names.result) steps (taken.0, taken.1.1) kept.found.1,
+      all-found c.take_rung_groups-names.result taken.1.0 c.groups.self.listed.items c.groups.self.marks steps taken.1.2
           (λ group small set. kept.found.2 group small set (λ still. let clear = ap (λ n. bit_at n group) none ∙ bit_at-zero group in omega (arith, clear, still))),
     )
 
 pub returns-clause-told : goal.returns-clause-told
 returns-clause-told c =
-    let names = c.take_names-names.result in
-    let taken = c.take_names-names.ensures in
+    let names = c.take_rung_groups-names.result in
+    let taken = c.take_rung_groups-names.ensures in
     let found = c.groups.invariant.found in
-    (names, (taken.1.0, found.0, taken.1.2, stepped-both _ c.take_names-names.new.self _ (taking names_word taken.1.0 names) found.0 (taken.0, taken.1.1) found.1), search rules)
+    (names, (taken.1.0, found.0, taken.1.2, stepped-both _ c.take_rung_groups-names.new.self _ (taking names_word taken.1.0 names) found.0 (taken.0, taken.1.1) found.1), search rules)
 
 pub returns-clause-marked : goal.returns-clause-marked
 returns-clause-marked c =
-    let names = c.take_names-names.result in
-    let taken = c.take_names-names.ensures in
+    let names = c.take_rung_groups-names.result in
+    let taken = c.take_rung_groups-names.ensures in
     let kept = c.groups.invariant.marked in
     let first = taking names_word taken.1.0 names in
-    (first ++ kept.0, stepped-both _ c.take_names-names.new.self _ first kept.0 (taken.0, taken.1.1) kept.1, names-marked names taken.1.0 c.groups.self.listed.items c.groups.self.marks kept.0 kept.2)
+    (first ++ kept.0, stepped-both _ c.take_rung_groups-names.new.self _ first kept.0 (taken.0, taken.1.1) kept.1, names-marked names taken.1.0 c.groups.self.listed.items c.groups.self.marks kept.0 kept.2)
 
 pub returns-clause-emptied : goal.returns-clause-emptied
 returns-clause-emptied c =
-    let names = c.take_names-names.result in
-    let taken = c.take_names-names.ensures in
+    let names = c.take_rung_groups-names.result in
+    let taken = c.take_rung_groups-names.ensures in
     let kept = c.groups.invariant.emptied in
     let first = taking names_word taken.1.0 names in
     let none : c.groups.left ≡ 0 = search rules in (
       first ++ kept.0,
-      stepped-both _ c.take_names-names.new.self _ first kept.0 (taken.0, taken.1.1) kept.1,
+      stepped-both _ c.take_rung_groups-names.new.self _ first kept.0 (taken.0, taken.1.1) kept.1,
       names-emptied names taken.1.0 (taken.1.0 == 0) kept.0
           (λ group small set. kept.2 group small set (λ still. let clear = ap (λ n. bit_at n group) none ∙ bit_at-zero group in omega (arith, clear, still)))
           kept.3,
@@ -99,9 +99,9 @@ returns-clause-emptied c =
 
 pub returns-clause-only : goal.returns-clause-only
 returns-clause-only c =
-    let taken = c.take_names-names.ensures in
+    let taken = c.take_rung_groups-names.ensures in
     let kept = c.groups.invariant.only in
-    let first = taking names_word taken.1.0 c.take_names-names.result in
+    let first = taking names_word taken.1.0 c.take_rung_groups-names.result in
     let listed = c.args.self.now.listed.items in
     let marks = c.args.self.now.marks in
-    (first ++ kept.0, stepped-both _ c.take_names-names.new.self _ first kept.0 (taken.0, taken.1.1) kept.1, marks-found listed listed marks marks _ first kept.0 refl (λ key marked. inl marked) kept.2)
+    (first ++ kept.0, stepped-both _ c.take_rung_groups-names.new.self _ first kept.0 (taken.0, taken.1.1) kept.1, marks-found listed listed marks marks _ first kept.0 refl (λ key marked. inl marked) kept.2)

@@ -1,6 +1,0 @@
--- What was said to step lines is their text.
-use Rattle.hub_c.proofs.Calls.{said_is_text}
-use Rattle.hub_c.proofs.hub.call_laws.Goals as goal
-
-pub returns : goal.returns
-returns c = said_is_text
