@@ -12,7 +12,7 @@ ghost use Rattle.hub_agent.specs.Owning.{Accounts, HoldsNoMore};
 ghost use Rattle.hub_agent.specs.Acting.{ActsFirst};
 ghost use Rattle.hub_trace.specs.declared.log_entry.LogEntry.{LogEntry};
 
-use crate::actor::{Acted, Actor, act_until_ordered_to_stop};
+use crate::actor::{Acted, Actor, do_actions_until_ordered_to_stop};
 use crate::agent::Agent;
 use crate::logging::log_closed_end;
 use crate::shared::{Peer, Shared, order_all_to_stop};
@@ -105,7 +105,7 @@ impl<'s, C: Checkpoint, K: Lends<Roster> + Drop> Agent<'s, C, K> {
             (actions_of self.old.notes.log.0 (actions script.now)) self.old self.new) }
     {
         let number = self.scribe.agent_id();
-        match act_until_ordered_to_stop(self, rt, script, number) {
+        match do_actions_until_ordered_to_stop(self, rt, script, number) {
             Ok(acted) => Ok(acted),
             Err(error) => {
                 order_all_to_stop(&mut self.peers);
@@ -179,7 +179,7 @@ impl<'s, C: Checkpoint, K: Lends<Roster> + Drop> Actor for Agent<'s, C, K> {
         self.order.seen()
     }
 
-    fn act<R: Wait>(&mut self, rt: &R, action: &ActionKind) -> Result<(), OutOfMemory> {
+    fn do_action<R: Wait>(&mut self, rt: &R, action: &ActionKind) -> Result<(), OutOfMemory> {
         match action {
             ActionKind::Post {
                 port,

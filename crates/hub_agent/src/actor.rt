@@ -27,7 +27,7 @@ pub trait Actor {
         ensures { looks self.old result self.new };
 
     /// Does an action.
-    fn act<R: Wait>(&mut self, rt: &R, action: &ActionKind) -> Result<(), OutOfMemory>
+    fn do_action<R: Wait>(&mut self, rt: &R, action: &ActionKind) -> Result<(), OutOfMemory>
         ensures ok { OnOk result (acts self.old action.now self.new) }
         ensures err { OnErr result (fails self.old action.now self.new) };
 }
@@ -45,9 +45,9 @@ pub struct Acted {
 /// last or to the order to end, for which it looks before each. After an error no more are done.
 ///
 /// ```rust
-/// let Acted { done, ordered } = act_until_ordered_to_stop(&mut actor, rt, script, number)?;
+/// let Acted { done, ordered } = do_actions_until_ordered_to_stop(&mut actor, rt, script, number)?;
 /// ```
-pub fn act_until_ordered_to_stop<A: Actor, R: Wait>(
+pub fn do_actions_until_ordered_to_stop<A: Actor, R: Wait>(
     actor: &mut A,
     rt: &R,
     script: &Script,
@@ -65,7 +65,7 @@ pub fn act_until_ordered_to_stop<A: Actor, R: Wait>(
                 let ordered = true;
                 return Ok(Acted { done, ordered });
             }
-            actor.act(rt, kind)?;
+            actor.do_action(rt, kind)?;
             done += 1;
         }
     }

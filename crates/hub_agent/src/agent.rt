@@ -207,9 +207,9 @@ impl<'s, C: Checkpoint, K: Lends<Roster> + Drop> Agent<'s, C, K> {
     {
         let mut steps = Steps::<L>::new_at_zero(blank);
         let scribe = self.scribe.replace_with_empty();
-        let empty = self.event_loop.replace_handler(scribe);
+        let empty = self.event_loop.replace_loop_handler(scribe);
         let turn = self.event_loop.turn(rt, &self.shared.hub, &mut steps);
-        self.scribe = self.event_loop.replace_handler(empty);
+        self.scribe = self.event_loop.replace_loop_handler(empty);
         turn
     }
 
@@ -262,7 +262,7 @@ impl<'s, C: Checkpoint, K: Lends<Roster> + Drop> Agent<'s, C, K> {
     }
 
     /// Whether what it waits for has come.
-    fn check_or_fetch_awaited<R: Wait>(
+    fn check_for_port_or_fetch_queue<R: Wait>(
         &mut self,
         rt: &R,
         awaited: Awaited,
@@ -296,12 +296,12 @@ impl<'s, C: Checkpoint, K: Lends<Roster> + Drop> Agent<'s, C, K> {
         ensures rest { KeepsButTurns self.old self.new }
     {
         for _ in rt.forever() {
-            if self.check_or_fetch_awaited(rt, awaited)? {
+            if self.check_for_port_or_fetch_queue(rt, awaited)? {
                 return Ok(());
             }
             match self.turn(rt)? {
                 Turn::Ending => return Ok(()),
-                turn => self.event_loop.rest(rt, turn),
+                turn => self.event_loop.sleep_or_yield_after_turn(rt, turn),
             }
         }
         unreachable!()

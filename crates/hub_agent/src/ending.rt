@@ -6,7 +6,7 @@ ghost use Rattle.hub_agent.specs.Owning.{times_held, lost, times};
 ghost use Rattle.hub_trace.specs.declared.log_entry.LogEntry.{LogEntry};
 
 use crate::agent::AgentLoop;
-use crate::logging::{log_close, log_notice};
+use crate::logging::{log_close, log_closing_notice};
 use crate::shared::Shared;
 use hub_broadcast::Roster;
 use hub_envelope::{EndId, OutOfMemory};
@@ -50,7 +50,7 @@ fn discard_waiting_messages<R: Wait>(rt: &R, graves: Vec<Grave>) -> Result<(), O
 }
 
 /// The notices that were put, by the ports that were closed.
-fn posted_notice_by_closed_port(
+fn collect_notices_put_by_closed_ports(
     alloc: Global,
     closed: &[ClosedPort],
 ) -> Result<BTreeMap<EndId, Posted>, OutOfMemory> {
@@ -68,7 +68,7 @@ fn posted_notice_by_closed_port(
 }
 
 /// The ends of the list, each once.
-fn set_of_ends(alloc: Global, ends: &[EndId]) -> Result<BTreeSet<EndId>, OutOfMemory>
+fn collect_ends_into_set(alloc: Global, ends: &[EndId]) -> Result<BTreeSet<EndId>, OutOfMemory>
     ensures { IfOk result (λ set. (e : ℕ) → times e set.keys ≤ times e ends.now) }
 {
     let mut set = BTreeSet::new(alloc);
@@ -91,22 +91,22 @@ fn log_all_closed(
     ensures own { OnOk result ((e : ℕ) →
         lost e scribe.new.log.1 ≤ lost e scribe.old.log.1 + times e held.now) }
 {
-    let mut left = set_of_ends(alloc, held)?;
-    let mut notices = posted_notice_by_closed_port(alloc, &ended.noticed)?;
+    let mut left = collect_ends_into_set(alloc, held)?;
+    let mut notices = collect_notices_put_by_closed_ports(alloc, &ended.noticed)?;
     for swept in &ended.swept {
         let end = swept.id();
         let notice = notices.remove(&end);
         let was_held = left.remove(&end);
-        log_notice_and_closing_if_held(scribe, end, notice, was_held)?;
+        log_closing_notice_and_close_if_held(scribe, end, notice, was_held)?;
     }
     for posted in notices.values() {
-        log_notice(scribe, *posted)?;
+        log_closing_notice(scribe, *posted)?;
     }
     Ok(())
 }
 
 /// Logs the notice of an end, where it was put, and the closing, where the loop held the end.
-fn log_notice_and_closing_if_held(
+fn log_closing_notice_and_close_if_held(
     scribe: &mut Scribe,
     end: EndId,
     notice: Option<Posted>,
@@ -116,7 +116,7 @@ fn log_notice_and_closing_if_held(
         scribe.old scribe.new) }
 {
     if let Some(posted) = notice {
-        log_notice(scribe, posted)?;
+        log_closing_notice(scribe, posted)?;
     }
     if is_held {
         log_close(scribe, end)?;

@@ -15,7 +15,7 @@ mod opening;
 mod posting;
 mod shared;
 
-pub use actor::{Acted, Actor, act_until_ordered_to_stop};
+pub use actor::{Acted, Actor, do_actions_until_ordered_to_stop};
 pub use agent::{Agent, AgentRun};
 pub use hub_envelope::OutOfMemory;
 pub use opening::Seat;

@@ -71,14 +71,14 @@ pub(crate) fn log_close(scribe: &mut Scribe, end: EndId) -> Result<(), OutOfMemo
 }
 
 /// Logs a notice that was put.
-pub(crate) fn log_notice(scribe: &mut Scribe, posted: Posted) -> Result<(), OutOfMemory>
+pub(crate) fn log_closing_notice(scribe: &mut Scribe, posted: Posted) -> Result<(), OutOfMemory>
     ensures { OnOk result (WritesEntries (Put (notice_at posted) ∷ []) scribe.old scribe.new) }
 {
     scribe.log_posted(posted, Content::Notice)
 }
 
 /// Logs the notice of a port that was closed, where it was put, and the closing.
-fn log_notice_and_closing(
+fn log_closing_notice_and_close(
     scribe: &mut Scribe,
     end: EndId,
     noticed: Noticed,
@@ -86,7 +86,7 @@ fn log_notice_and_closing(
     ensures { OnOk result (WritesEntries (closing_entries end noticed) scribe.old scribe.new) }
 {
     match noticed {
-        Noticed::Put(posted) => log_notice(scribe, posted)?,
+        Noticed::Put(posted) => log_closing_notice(scribe, posted)?,
         Noticed::OutOfMemory => return Err(OutOfMemory),
         Noticed::PeerClosed | Noticed::Moving => {}
     }
@@ -102,17 +102,17 @@ pub(crate) fn log_closed_end(
     ensures { OnOk result (WritesEntries (closed_entries end port) scribe.old scribe.new) }
 {
     match port {
-        Some(port) => log_notice_and_closing(scribe, end, port.noticed),
+        Some(port) => log_closing_notice_and_close(scribe, end, port.noticed),
         None => log_close(scribe, end),
     }
 }
 
 /// Logs what became of the ports that a doomed post has closed.
-fn log_closings(scribe: &mut Scribe, closings: &[ClosedPort]) -> Result<(), OutOfMemory>
+fn log_closed_ports(scribe: &mut Scribe, closings: &[ClosedPort]) -> Result<(), OutOfMemory>
     ensures { OnOk result (WritesEntries (doomed_entries closings.now) scribe.old scribe.new) }
 {
     for closing in closings {
-        log_notice_and_closing(scribe, closing.end, closing.noticed)?;
+        log_closing_notice_and_close(scribe, closing.end, closing.noticed)?;
     }
     Ok(())
 }
@@ -131,7 +131,7 @@ pub(crate) fn log_post_result(
 {
     match answer {
         Ok(posted) => log_put(scribe, posted, ports, body),
-        Err(SendRefusal::Doomed) => log_closings(scribe, closings.as_slice()),
+        Err(SendRefusal::Doomed) => log_closed_ports(scribe, closings.as_slice()),
         Err(SendRefusal::OutOfMemory) => Err(OutOfMemory),
         Err(_) => Ok(()),
     }
@@ -148,7 +148,7 @@ pub(crate) fn log_accepted_posts_of_cast(
 {
     let mut refused = Ok(());
     for (_, outcome) in outcomes {
-        log_put_if_accepted(scribe, outcome, body)?;
+        log_cast_post_if_accepted(scribe, outcome, body)?;
         if matches!(outcome, CastOutcome::OutOfMemory) {
             refused = Err(OutOfMemory);
         }
@@ -157,7 +157,7 @@ pub(crate) fn log_accepted_posts_of_cast(
 }
 
 /// Logs a post of a cast, where it was accepted.
-fn log_put_if_accepted(
+fn log_cast_post_if_accepted(
     scribe: &mut Scribe,
     outcome: &CastOutcome,
     body: &Body,

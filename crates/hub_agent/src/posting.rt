@@ -66,7 +66,7 @@ fn post_over_port_or_line<C: Checkpoint, R: Wait>(
 }
 
 /// The port that is held, or what else is.
-fn as_port(held: Held) -> Result<Port, Held>
+fn held_into_port(held: Held) -> Result<Port, Held>
     ensures ok { IfOk result (λ port. held ≡ PortHeld port) }
     ensures err { IfErr result (λ back. (back ≡ held)
         × ((port : PortSeat) → held ≢ PortHeld port)) }
@@ -82,7 +82,7 @@ fn as_port(held: Held) -> Result<Port, Held>
 
 /// Closes what can't be held for want of memory, so that it is swept with what was closed by
 /// actions. A line is given back. No member of a roster comes here.
-fn close_or_give_back<R: Wait>(rt: &R, shared: &Shared, graves: &mut Vec<Grave>, held: Held) {
+fn close_end_or_return_line<R: Wait>(rt: &R, shared: &Shared, graves: &mut Vec<Grave>, held: Held) {
     match held.close_without_roster(rt, &shared.hub) {
         Ok(closed) => {
             if graves.reserve(1).is_ok() {
@@ -105,7 +105,7 @@ impl<'s, C: Checkpoint, K: Lends<Roster> + Drop> Agent<'s, C, K> {
         match self.event_loop.hold(held) {
             Ok(()) => Ok(()),
             Err((LoopError::OutOfMemory, held)) => {
-                close_or_give_back(rt, self.shared, &mut self.graves, held);
+                close_end_or_return_line(rt, self.shared, &mut self.graves, held);
                 Err(OutOfMemory)
             }
         }
@@ -165,7 +165,7 @@ impl<'s, C: Checkpoint, K: Lends<Roster> + Drop> Agent<'s, C, K> {
                 self.add_ports_to_loop(rt, ports)?;
                 return Ok(None);
             };
-            match as_port(held) {
+            match held_into_port(held) {
                 Ok(port) => ports.push_reserved(port),
                 Err(held) => {
                     let again = self.hold(rt, held);
@@ -214,7 +214,7 @@ impl<'s, C: Checkpoint, K: Lends<Roster> + Drop> Agent<'s, C, K> {
         ensures held { OnOk result (HasLine queue self.old.ends self.new.ends) }
         ensures none { IfOk result (λ has. has ≡ false → HoldsNoLine self.new.ends queue) }
     {
-        if self.event_loop.has_line_to(queue) {
+        if self.event_loop.has_line_for_destination(queue) {
             return Ok(true);
         }
         self.borrow_line_from_directory(rt, queue)

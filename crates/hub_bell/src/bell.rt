@@ -45,7 +45,7 @@ impl Bell {
     ghost use Rattle.hub_bell.specs.Seats.{board_id, new_at};
 
     /// The first seat at a board, of which this is a bell.
-    pub(crate) fn new(board: Arc<Board>) -> Bell
+    pub(crate) fn first_of_board(board: Arc<Board>) -> Bell
         ensures { result ≡ new_at (board_id
             (arc_value board).words.shared.table_id
             (arc_value (arc_value board).waker.state).shared.table_id) }
@@ -126,7 +126,7 @@ impl Clone for Bell {
 
     /// One more bell of the same loop, which has done nothing yet.
     fn clone(&self) -> Result<Bell, OutOfMemory> {
-        Ok(Bell::new(Arc::try_clone(&self.board)?))
+        Ok(Bell::first_of_board(Arc::try_clone(&self.board)?))
     }
 }
 
@@ -183,7 +183,7 @@ const LOOKS: usize = 32;
 /// let (mut listener, mut bell) = Listener::open(alloc)?;
 /// bell.ring(EndId(7));
 /// assert_eq!(rt; listener.take_rung_groups(), 1);
-/// assert_eq!(rt; listener.take_bits(0), 1 << 7);
+/// assert_eq!(rt; listener.take_bits_of_word(0), 1 << 7);
 /// ```
 #[derive(Drop)]
 pub struct Listener {
@@ -230,7 +230,7 @@ impl Listener {
         let waker = sleeper.unparker().clone()?;
         let (words, seat) = BoardWords::of_words(alloc, &[0; WORDS], &())?;
         let board = Arc::new(alloc, Board { words, waker })?;
-        let bell = Bell::new(Arc::try_clone(&board)?);
+        let bell = Bell::first_of_board(Arc::try_clone(&board)?);
         let listener = Listener {
             sleeper,
             board,
@@ -245,7 +245,7 @@ impl Listener {
         ensures { IfOk result (λ bell. bell ≡ new_at self.now.board) }
     {
         let board = Arc::try_clone(&self.board)?;
-        Ok(Bell::new(board))
+        Ok(Bell::first_of_board(board))
     }
 
     /// Takes out the names of the groups in which bits were set: bit `n` is set where one was set
@@ -259,7 +259,7 @@ impl Listener {
 
     /// Takes out the bits of a word: bit `k` of word `n` is that of the end whose number is
     /// `64 * n + k`.
-    pub fn take_bits(&mut self, word: usize) -> u64
+    pub fn take_bits_of_word(&mut self, word: usize) -> u64
         requires { word < 1024 }
         ensures { (self.new.board ≡ self.old.board)
             × IsSwappedOut self.old.at self.new.at (16 + word) result }

@@ -31,7 +31,7 @@ const GROUP: usize = BIT_WORDS / WIDTH;
 pub(crate) const WORDS: usize = FIRST_BITS + BIT_WORDS;
 
 /// The mask of one bit.
-pub(crate) fn mask_of(bit: u32) -> u64
+pub(crate) fn mask_of_bit(bit: u32) -> u64
     requires { bit < 64 }
     ensures { result ≡ 2 ^ bit }
 {
@@ -57,14 +57,14 @@ pub(crate) fn word_index_of_end(end: EndId) -> usize
 pub(crate) fn end_mask_of(end: EndId) -> u64
     ensures { result ≡ end_mask end }
 {
-    mask_of(end.0 % WIDTH as u32)
+    mask_of_bit(end.0 % WIDTH as u32)
 }
 
 /// The bit that names the group of that word.
 pub(crate) fn group_mask_of_end(end: EndId) -> u64
     ensures { result ≡ name_mask end }
 {
-    mask_of((end.0 as usize / (WIDTH * GROUP) % WIDTH) as u32)
+    mask_of_bit((end.0 as usize / (WIDTH * GROUP) % WIDTH) as u32)
 }
 
 /// The steps that a seat has made at a board, in order: a list of any length, since it stands in

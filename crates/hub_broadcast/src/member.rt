@@ -67,7 +67,7 @@ impl Member {
     }
 
     /// How many queues there are from the taker's to the newest, that one not counted.
-    pub fn behind(&self) -> u32
+    pub fn count_queues_to_newest(&self) -> u32
         ensures { result ≡ length self.now.taker.retired }
     {
         self.taker.behind()

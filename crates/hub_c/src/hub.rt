@@ -8,8 +8,8 @@ ghost use Rattle.hub_c.specs.Line.{BadLine, LostLine, NoMemoryLine, NoRoomLine, 
 ghost use Rattle.hub_c.specs.Line.{says_something};
 ghost use Rattle.hub_c.specs.Calls.{CallsSayTheText};
 
-use crate::line::{run_line_and_copy_answer, say_again};
-use crate::slot::{Parts, SessionSlot};
+use crate::line::{copy_last_answer_again, run_line_and_copy_answer};
+use crate::slot::{RawParts, SessionSlot};
 use crate::status::{DONE, NO_MEMORY, WRONG_STATE};
 use hub_steps::Session;
 use std::alloc::Global;
@@ -27,7 +27,7 @@ impl Drop for HubHandle {
     fn drop(self) {
         let Self { slot, is_open } = self;
         if is_open {
-            drop(slot.into_parts().into_box());
+            drop(slot.into_raw_parts().into_box());
         }
     }
 }
@@ -46,7 +46,7 @@ impl HubHandle {
         ensures { result.slot.held ≡ Some session.value }
     {
         HubHandle {
-            slot: SessionSlot::of(Parts::from_box(session)),
+            slot: SessionSlot::from_raw_parts(RawParts::from_box(session)),
             is_open: true,
         }
     }
@@ -57,7 +57,7 @@ impl HubHandle {
         ensures { Some result.value ≡ self.slot.held }
     {
         let Self { slot, is_open: _ } = self;
-        slot.into_parts().into_box()
+        slot.into_raw_parts().into_box()
     }
 }
 
@@ -150,7 +150,7 @@ pub extern "C" fn varukoni_said(
         return WRONG_STATE;
     }
     let mut session = mem::replace(hub, HubHandle::new_closed(alloc)).into_session();
-    let status = say_again(&mut session, room, length);
+    let status = copy_last_answer_again(&mut session, room, length);
     *hub = HubHandle::new_open(session);
     status
 }

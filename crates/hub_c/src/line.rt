@@ -66,7 +66,7 @@ pub fn copy_last_answer(session: &Session, room: &mut [u8], length: &mut usize) 
 
 /// Puts what was said last into the room once more, and makes the outcome line that found no
 /// memory.
-pub fn say_again(session: &mut Session, room: &mut [u8], length: &mut usize) -> u8
+pub fn copy_last_answer_again(session: &mut Session, room: &mut [u8], length: &mut usize) -> u8
     ensures said { result ≡ 0 → SaysAgain session.old session.new
         × Fills room.old room.new length.new (told session.old) }
     ensures no_memory { result ≡ 3 → SaysAgain session.old session.new

@@ -144,12 +144,12 @@ impl Directory {
         self.listing.lock(rt).line_to(end)
     }
 
-    /// Takes a line back: `QueueList::give_back` under the lock. The poster comes back where no
-    /// listed queue has that line out. It takes no memory.
+    /// Takes a line back: `QueueList::give_back_poster` under the lock. The poster comes back where
+    /// no listed queue has that line out. It takes no memory.
     pub fn give_back<R: Wait>(&self, rt: &R, poster: Poster) -> Result<(), Poster>
         ensures { IfErr result (λ back. back ≡ poster) }
     {
-        self.listing.lock(rt).give_back(poster)
+        self.listing.lock(rt).give_back_poster(poster)
     }
 
     /// Keeps a queue until that agent fetches it.

@@ -37,9 +37,9 @@ impl HandedQueue {
         }
     }
 
-    /// Adopts the queue for the loop that this bell wakes, as the `adopt` of either queue does.
-    /// After an error it comes back as it was.
-    pub fn adopt<R: Wait>(
+    /// Adopts the queue for the loop that this bell wakes, as the `adopt_for_loop` of either queue
+    /// does. After an error it comes back as it was.
+    pub fn adopt_for_loop<R: Wait>(
         self,
         rt: &R,
         yard: &Depot<Onward>,
@@ -48,11 +48,11 @@ impl HandedQueue {
         ensures { IsHandedAdopted self result }
     {
         match self {
-            HandedQueue::Client(queue) => match queue.adopt(rt, yard, bell) {
+            HandedQueue::Client(queue) => match queue.adopt_for_loop(rt, yard, bell) {
                 Ok(queue) => Ok(HandedQueue::Client(queue)),
                 Err((error, queue)) => Err((error, HandedQueue::Client(queue))),
             },
-            HandedQueue::Worker(queue) => match queue.adopt(rt, yard, bell) {
+            HandedQueue::Worker(queue) => match queue.adopt_for_loop(rt, yard, bell) {
                 Ok(queue) => Ok(HandedQueue::Worker(queue)),
                 Err((error, queue)) => Err((error, HandedQueue::Worker(queue))),
             },
@@ -165,6 +165,6 @@ pub fn close_handed_queues<H: Hears<Grave>, R: Wait>(
 {
     while let Some(handed) = waiting.take_any() {
         let Handed { queue, to: _ } = handed;
-        heard.tell(rt, queue.close());
+        heard.tell_done(rt, queue.close());
     }
 }

@@ -55,7 +55,7 @@ impl Listed {
 
     /// Takes out the poster of the least line at home. `None` where each line is out. It costs at
     /// most one look at each line, and takes no memory.
-    pub fn take_first_poster(&mut self) -> Option<Poster>
+    pub fn take_first_free_poster(&mut self) -> Option<Poster>
         ensures taken { IsTakenOut self.old self.new result }
         ensures own { IfSome result
             (λ p. (p.name.end ≡ self.old.end) × (p.name.line.0 < MAX_LINES)) }
@@ -153,12 +153,12 @@ impl QueueList {
             return Err(DirectoryError::NoSuchEnd);
         };
         let queue = &mut self.queues[place];
-        queue.take_first_poster().ok_or(DirectoryError::NoLine)
+        queue.take_first_free_poster().ok_or(DirectoryError::NoLine)
     }
 
     /// Puts a poster back to its line at the first queue of its number. The poster comes back where
     /// that line isn't out there. It costs the logarithm of the queues, and takes no memory.
-    pub fn give_back(&mut self, poster: Poster) -> Result<(), Poster>
+    pub fn give_back_poster(&mut self, poster: Poster) -> Result<(), Poster>
         ensures { IsGivenBack self.old self.new poster result }
     {
         let Some(place) = place_of(&self.queues, poster.name().end) else {

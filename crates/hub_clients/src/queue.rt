@@ -26,11 +26,11 @@ pub trait QueueKind {
     ghost as_handed: { TakerSeat → HandedSeat };
 
     /// The queue, as it is handed on.
-    fn into_handed(queue: Queue<Self>) -> HandedQueue
+    fn into_handed_queue(queue: Queue<Self>) -> HandedQueue
         ensures { result ≡ as_handed queue };
 
     /// The queue that was not handed on.
-    fn from_handed(queue: HandedQueue) -> Queue<Self>
+    fn from_handed_queue(queue: HandedQueue) -> Queue<Self>
         requires { (own : TakerSeat) × (queue ≡ as_handed own) }
         ensures { (own : TakerSeat) → queue ≡ as_handed own → result ≡ own };
 }
@@ -92,7 +92,7 @@ impl<K> Queue<K> {
     }
 
     /// How many queues there are from the taker's to the newest, that one not counted.
-    pub fn behind(&self) -> u32
+    pub fn count_queues_to_newest(&self) -> u32
         ensures { result ≡ length self.now.retired }
     {
         self.taker.behind()
@@ -120,9 +120,9 @@ impl<K: QueueKind> Queue<K> {
     ) -> Result<(), (HandError, Queue<K>)>
         ensures { IfErr result (λ refused. refused.1 ≡ self) }
     {
-        match directory.keep_handed_queue(rt, K::into_handed(self), to) {
+        match directory.keep_handed_queue(rt, K::into_handed_queue(self), to) {
             Ok(()) => Ok(()),
-            Err((error, queue)) => Err((error, K::from_handed(queue))),
+            Err((error, queue)) => Err((error, K::from_handed_queue(queue))),
         }
     }
 }
@@ -144,13 +144,13 @@ impl QueueKind for Client {
 
     ghost as_handed = { ClientHanded };
 
-    fn into_handed(queue: ClientQueue) -> HandedQueue
+    fn into_handed_queue(queue: ClientQueue) -> HandedQueue
         ensures { result ≡ ClientHanded queue }
     {
         HandedQueue::Client(queue)
     }
 
-    fn from_handed(queue: HandedQueue) -> ClientQueue
+    fn from_handed_queue(queue: HandedQueue) -> ClientQueue
         requires { (own : TakerSeat) × (queue ≡ ClientHanded own) }
         ensures { (own : TakerSeat) → queue ≡ ClientHanded own → result ≡ own }
     {
@@ -180,7 +180,7 @@ impl Queue<Client> {
 
     /// Moves the queue to the loop that has fetched it, as `Taker::adopt` does. It is disabled
     /// then. After an error it is as it was.
-    pub fn adopt<R: Wait>(
+    pub fn adopt_for_loop<R: Wait>(
         self,
         rt: &R,
         yard: &Depot<Onward>,
@@ -212,13 +212,13 @@ impl QueueKind for Worker {
 
     ghost as_handed = { WorkerHanded };
 
-    fn into_handed(queue: WorkerQueue) -> HandedQueue
+    fn into_handed_queue(queue: WorkerQueue) -> HandedQueue
         ensures { result ≡ WorkerHanded queue }
     {
         HandedQueue::Worker(queue)
     }
 
-    fn from_handed(queue: HandedQueue) -> WorkerQueue
+    fn from_handed_queue(queue: HandedQueue) -> WorkerQueue
         requires { (own : TakerSeat) × (queue ≡ WorkerHanded own) }
         ensures { (own : TakerSeat) → queue ≡ WorkerHanded own → result ≡ own }
     {
@@ -232,7 +232,7 @@ impl QueueKind for Worker {
 impl Queue<Worker> {
     /// Moves the queue to the loop that has fetched it, as `Taker::adopt` does, and enables it at
     /// once. After an error it is as it was.
-    pub fn adopt<R: Wait>(
+    pub fn adopt_for_loop<R: Wait>(
         self,
         rt: &R,
         yard: &Depot<Onward>,

@@ -1,7 +1,7 @@
 -- What every legal history keeps: the headline, the laws beside it, and what becomes of each accepted envelope.
 use Rattle.std.proofs.Common.{take, Bool, List, None, Option, Some, [], ap, append-nil, append_assoc, arith, cond, drop, eqb, false, get_or, inl, inr, length, length-append, lt-ltb, ltb-false, ltb-true, map, nat_lt, ne_eqb, not, refl, rules, subst, suc, sym, true, zero, ℕ, ⊎_elim, ◌&&◌, ◌++◌, ◌+◌, ◌-◌, ◌<◌, ◌∙◌, ◌∷◌, ◌≡◌, ◌≤◌}
 use Rattle.hub_core.proofs.Words.{Action, AllByRecursion, Answers, Core, End, EndId, Envelope, Facts, Fates, Fits, FitsSweep, FitsTake, Headline, History, InOrder, Inside, IsAllWaiting, IsBusyAt, IsDrained, IsDrainedAt, IsLeft, IsNext, IsTurned, KeepsQueues, KeepsTheLine, Legal, LegalAfter, LineNow, MatchBool, NoticeIsLast, OneAnswer, Out, Outcome, Pair, Phase, Prefix, Rises, SameIsJoined, Sender, Serves, Shows, Sound, Step, Sweeps, Turned, TurnedPutsNothing, accepted, accepted_by, all_settled, and_from, and_parts, by, cases_lt, closed_after, discarded}
-use Rattle.hub_core.proofs.Words.{discarded_by, ends, answered, eq-eqb, eqb-true, ext_get_or, facts, false_from_ne_true, false≢true, filter, filter-append, flat_map, flat_map-append, flights, get_or-append_seam, get_or_append_left, may_put_notice, holder, in_queue, is_away_at, is_inside, is_line, is_out, is_some, leaves, lines_of, list_any, map-append, names, naming, not-false, not-true, numbers, on_line, opened, or_from, or_left, or_parts, or_right, phase_of_line, place, poster, posts, same_name, slice_get, someone_at, taken, taken_by, total, up_to, waiting, drop-append_seam, take-append_seam}
+use Rattle.hub_core.proofs.Words.{discarded_by, ends, answered, eq-eqb, eqb-true, ext_get_or, facts, false_from_ne_true, false≢true, filter, filter-append, flat_map, flat_map-append, flights, get_or-append_seam, get_or_append_left, port_place_allows_notice, holder, in_queue, is_away_at, is_inside, is_line, is_out, is_some, leaves, lines_of, list_any, map-append, names, naming, not-false, not-true, numbers, on_line, opened, or_from, or_left, or_parts, or_right, phase_of_line, place, poster, posts, same_name, slice_get, someone_at, taken, taken_by, total, up_to, waiting, drop-append_seam, take-append_seam}
 use Rattle.hub_core.proofs.SoundPlaces.{speaker_next}
 use Rattle.hub_core.proofs.Nexts.{SweptWith, any_of, found_closed_of, found_moved_of, got_of, let_in_of, noticed_of, pushed_of, served_of, swept_of, facts_next, next}
 use Rattle.hub_core.proofs.Sames.{by_pairs, legal_apart, legal_at, legal_joined, turned_leaves, turned_same}
@@ -167,7 +167,7 @@ refused_by false rest o is h = h
 pub turned_puts_nothing : TurnedPutsNothing
 turned_puts_nothing = record {
   push = λ h s ports body refused o turned fits. refused_by _ _ o (ap (λ p. is_inside p && not ((facts h).line s.end.0 s.line.0).noticed) turned) fits;
-  notice = λ h s refused o turned fits. refused_by _ _ o (ap (λ p. is_inside p && not ((facts h).line s.end.0 s.line.0).noticed && may_put_notice (facts h) s) turned) fits;
+  notice = λ h s refused o turned fits. refused_by _ _ o (ap (λ p. is_inside p && not ((facts h).line s.end.0 s.line.0).noticed && port_place_allows_notice (facts h) s) turned) fits;
 }
 
 pub same_is_joined : SameIsJoined

@@ -1,6 +1,6 @@
 -- What an answer that fits says of the facts; and the facts of a history with one more pair, for all notions at once.
 use Rattle.std.proofs.Common.{◌≡◌, ◌+◌, Bool, true, false, cond, List, length, Option, Some, None, refl, ap, ℕ, zero, suc, ◌<◌, ◌≤◌, eqb, sym, ◌∙◌, arith, rules, inl, inr, ltb-true, leb-false, ltb-false, ◌&&◌, not, nat_lt, ◌||◌, ◌⊎◌, nat_le, ⊎_elim, [], ◌∷◌, ◌++◌, append-nil}
-use Rattle.hub_core.proofs.Words.{is_some, MatchBool, list_all, AgentId, EndId, Envelope, MAX_ENDS, MAX_LINES, MAX_MOVES, MAX_PORTS, MAX_AGENTS, Good, HoldsTarget, Bad, Sender, Acceptance, Outcome, Facts, has_one, holder, poster, phase_of_line, is_out, owner, is_holder, name_of, option_map, unwrap_or, is_posting, is_inside, is_good, is_distinct, may_leave_agent, listing_of, push_answer_of, may_enter, may_put_notice, is_here, is_fitting, is_empty, Serves, FitsTake, false≢true, and_parts, or_parts, Place, Arrived, any_below, someone_at, first_failing, lookable, looked, all_settled, IsAllWaiting, FitsSweep, is_arrived, is_released, may_take_over, may_close, is_queue, lines_of, names, LineId, Kind, line_found, free_line, is_casting, destinations, has_end, maker_of, has_away, is_away_of, cases_eq, found_at, put_there, ◌==◌, if◌then◌else◌, fold, flat_map, fold-append, flat_map-append, Out, Action, Pair, History, facts, named_envelope, accepted_by, named_notice, taken_by, agents_after, runs_after, ordered_after, ends_after, kind_after, place_after, closed_after, enabled_after, phase_after, adoptions_after, hops_after, passed_after, noticed_after, held_after, clear_after, discarded_by, roster_after, no_roster, CoreState, core_after, changes_nothing}
+use Rattle.hub_core.proofs.Words.{is_some, MatchBool, list_all, AgentId, EndId, Envelope, MAX_ENDS, MAX_LINES, MAX_MOVES, MAX_PORTS, MAX_AGENTS, Good, HoldsTarget, Bad, Sender, Acceptance, Outcome, Facts, has_one, holder, poster, phase_of_line, is_out, owner, is_holder, name_of, option_map, unwrap_or, is_posting, is_inside, is_good, is_distinct, may_leave_agent, listing_of, push_answer_of, may_enter, port_place_allows_notice, is_here, is_fitting, is_empty, Serves, FitsTake, false≢true, and_parts, or_parts, Place, Arrived, any_below, someone_at, first_failing, lookable, looked, all_settled, IsAllWaiting, FitsSweep, is_arrived, is_released, may_take_over, may_close, is_queue, lines_of, names, LineId, Kind, line_found, free_line, is_casting, destinations, has_end, maker_of, has_away, is_away_of, cases_eq, found_at, put_there, ◌==◌, if◌then◌else◌, fold, flat_map, fold-append, flat_map-append, Out, Action, Pair, History, facts, named_envelope, accepted_by, named_notice, taken_by, agents_after, runs_after, ordered_after, ends_after, kind_after, place_after, closed_after, enabled_after, phase_after, adoptions_after, hops_after, passed_after, noticed_after, held_after, clear_after, discarded_by, roster_after, no_roster, CoreState, core_after, changes_nothing}
 use Rattle.hub_core.specs.Legal.{agent_answer, back_answer, cast_answer, channel_answer, line_answer, member_answer, queue_answer, see_answer}
 use Rattle.hub_core.specs.Posting.{enter_answer, leave_answer, notice_answer, push_answer}
 use Rattle.hub_core.specs.Taking.{adopt_answer, close_answer, hand_answer, hop_answer, look_answer, start_answer}
@@ -174,14 +174,14 @@ pushed_of f s ports body refused n h =
 pub record Noticed (f : Facts) (s : Sender) (n : Acceptance) : Type 0 where
   pub inside : is_inside (phase_of_line f s) ≡ true
   pub plain : (f.line s.end.0 s.line.0).noticed ≡ false
-  pub hears : may_put_notice f s ≡ true
+  pub hears : port_place_allows_notice f s ≡ true
   pub name : n ≡ name_of (put_there f s) f s (record { 0 = 0 })
 
 pub noticed_of : (f : Facts) (s : Sender) (refused : Bool) (n : Acceptance) → outcome.Accepted n ≡ notice_answer (is_posting f s) (put_there f s) f s refused → Noticed f s n
 noticed_of f s refused n h =
-    let r = pass (is_inside (phase_of_line f s) && not (f.line s.end.0 s.line.0).noticed && may_put_notice f s) h (λ is. cc) in
+    let r = pass (is_inside (phase_of_line f s) && not (f.line s.end.0 s.line.0).noticed && port_place_allows_notice f s) h (λ is. cc) in
     let last : outcome.Accepted n ≡ outcome.Accepted (name_of (put_there f s) f s (record { 0 = 0 })) = (miss refused r.1 (λ is. cc)).1 in
-    let both = and_parts (is_inside (phase_of_line f s) && not (f.line s.end.0 s.line.0).noticed) (may_put_notice f s) r.0 in
+    let both = and_parts (is_inside (phase_of_line f s) && not (f.line s.end.0 s.line.0).noticed) (port_place_allows_notice f s) r.0 in
     let posts = both_tests (is_inside (phase_of_line f s)) (f.line s.end.0 s.line.0).noticed both.0 in
     record { inside = posts.0; plain = posts.1; hears = both.1; name = cc }
 

@@ -1,6 +1,6 @@
 -- What a mailbox doesn't show of the lines of an end, and of what waits there, stays so with each pair that fits.
 use Rattle.std.proofs.Common.{Bool, List, None, Option, Some, [], ap, append-nil, append_assoc, arith, cond, eqb, false, inl, inr, length, ne_eqb, not, refl, rules, subst, sym, true, ℕ, ⊎_elim, ◌&&◌, ◌++◌, ◌+◌, ◌-◌, ◌<◌, ◌||◌, ◌∙◌, ◌∷◌, ◌≡◌, ◌≤◌, ◌⊎◌}
-use Rattle.hub_core.proofs.Words.{Acceptance, Action, AgentId, AllByRecursion, Answers, Client, EndId, EndNow, Envelope, Facts, Inside, IsAllWaiting, IsNext, IsOfEnd, Kind, LineNow, MAX_LINES, Member, Out, Outcome, Phase, Port, Prefix, Rises, Sender, SoundLines, SoundWaiting, Turned, Worker, owner_by, with_agent, name_of, put_there, all_settled, and_parts, append_cancel_left, by, cases_eq, cases_lt, count_in_queue, eq-eqb, eqb-false, eqb-true, false≢true, filter-append, may_put_notice, holder, in_queue, is_away_at, is_distinct, is_here, is_inside, is_queue, is_settled, is_some}
+use Rattle.hub_core.proofs.Words.{Acceptance, Action, AgentId, AllByRecursion, Answers, Client, EndId, EndNow, Envelope, Facts, Inside, IsAllWaiting, IsNext, IsOfEnd, Kind, LineNow, MAX_LINES, Member, Out, Outcome, Phase, Port, Prefix, Rises, Sender, SoundLines, SoundWaiting, Turned, Worker, owner_by, with_agent, name_of, put_there, all_settled, and_parts, append_cancel_left, by, cases_eq, cases_lt, count_in_queue, eq-eqb, eqb-false, eqb-true, false≢true, filter-append, port_place_allows_notice, holder, in_queue, is_away_at, is_distinct, is_here, is_inside, is_queue, is_settled, is_some}
 use Rattle.hub_core.proofs.Words.{lines_of, may_enter, named_envelope, named_notice, no_end, no_line, not-true, on_line, opened, option_and_then, or_cases, peer_of, phase_of_line, poster, poster_of, running, someone_at, speaker, up_to}
 use Rattle.hub_core.proofs.Nexts.{Noticed, Pushed, SweptWith, cleared_of, each_of, found_closed_of, found_moved_of, got_of, hopped_of, let_in_of, line_got_of, looked_where, member_made_of, new_ends, none_of_any, noticed_of, pushed_of, queue_made_of, swept_of, went_on_of, next}
 use Rattle.hub_core.proofs.Items.{AllByRecursion-append, AllByRecursion-weaker, at_test, eqb_same}
@@ -113,7 +113,7 @@ heard_line f l _ h = absurd (false≢true ((and_parts (eqb l 0) false h).1))
 
 -- a line that may be entered is one of its end
 pub line_there : (f : Facts) (s : Sender) → LinesAt f s.end.0 → may_enter f s ≡ true → s.line.0 < lines_of (f.end s.end.0).kind
-line_there f s lines h = elim (is_some (poster f s)) as (λ b. is_some (poster f s) ≡ b → (b || may_put_notice f s) ≡ true → s.line.0 < lines_of (f.end s.end.0).kind) [
+line_there f s lines h = elim (is_some (poster f s)) as (λ b. is_some (poster f s) ≡ b → (b || port_place_allows_notice f s) ≡ true → s.line.0 < lines_of (f.end s.end.0).kind) [
   | true ↦ λ speaks _. some_line f s lines (f.end s.end.0).kind refl speaks
   | false ↦ λ _ hears. heard_line f s.line.0 (f.end s.end.0).kind hears
 ] refl h

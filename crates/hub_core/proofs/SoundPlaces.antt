@@ -1,6 +1,6 @@
 -- Places stay sound.
 use Rattle.std.proofs.Common.{Bool, Option, Some, ap, arith, cond, eqb, false, refl, true, ℕ, ◌+◌, ◌<◌, ◌||◌, ◌∙◌, ◌≡◌, None, drop, inl, inr, rules, sym, ◌⊎◌, List, [], ne_eqb, subst, ◌&&◌, ◌++◌, ◌∷◌, ◌≤◌}
-use Rattle.hub_core.proofs.Words.{Action, AgentId, Answers, Arrived, EndId, Facts, Gone, InFlight, Kind, Outcome, Place, Sound, SoundPlaces, Swept, With, arrived, closed_after, eqb-true, is_here, is_named, is_queue, is_released, is_some, names, no_end, peer_of, owner, is_holder, is_free, place_after, EndNow, Member, Sender, cast_after, cast_to, ends, false≢true, held_after, is_out, kind_after, lines_of, may_enter, phase_of_line, poster, roster_after, runs_after, may_put_notice, Client, Envelope, Inside, IsNext, MAX_ENDS, Out, Phase, Port}
+use Rattle.hub_core.proofs.Words.{Action, AgentId, Answers, Arrived, EndId, Facts, Gone, InFlight, Kind, Outcome, Place, Sound, SoundPlaces, Swept, With, arrived, closed_after, eqb-true, is_here, is_named, is_queue, is_released, is_some, names, no_end, peer_of, owner, is_holder, is_free, place_after, EndNow, Member, Sender, cast_after, cast_to, ends, false≢true, held_after, is_out, kind_after, lines_of, may_enter, phase_of_line, poster, roster_after, runs_after, port_place_allows_notice, Client, Envelope, Inside, IsNext, MAX_ENDS, Out, Phase, Port}
 use Rattle.hub_core.proofs.Words.{Turned, Worker, agents_after, and_parts, ends_after, flights, is_gone, named_envelope, named_notice, naming, opened, total}
 use Rattle.hub_core.specs.declared.step.Action.TheVariants as action
 use Rattle.hub_core.specs.declared.step.Outcome.TheVariants as outcome
@@ -197,8 +197,8 @@ speaker_next f refused h o a fits s away after speaks = elim (speaks_of f s spea
 pub may_next : (f : Facts) (refused : Bool) → Sound f → (o : Outcome) (a : Action) → Answers f a refused o → (s : Sender) → is_out (phase_of_line f s) ≡ false → is_out (phase_of_line (next f a o) s) ≡ false → may_enter f s ≡ true → may_enter (next f a o) s ≡ true
 may_next f refused h o a fits s away after may = elim (hears_of f s may) [
   | inl k ↦ port_may_next f refused h o a fits s away k
-  | inr (inl k) ↦ ap (λ q. is_some q || may_put_notice (next f a o) s) (holds_as (next f a o) s (held_next f refused h o a fits s away k).0)
-  | inr (inr (b, k)) ↦ ap (λ q. is_some q || may_put_notice (next f a o) s) (casts_as (next f a o) s b (cast_next f refused h o a fits s after b k))
+  | inr (inl k) ↦ ap (λ q. is_some q || port_place_allows_notice (next f a o) s) (holds_as (next f a o) s (held_next f refused h o a fits s away k).0)
+  | inr (inr (b, k)) ↦ ap (λ q. is_some q || port_place_allows_notice (next f a o) s) (casts_as (next f a o) s b (cast_next f refused h o a fits s after b k))
 ]
 
 -- ==== Places stay sound.

@@ -1,6 +1,6 @@
 -- Who posts on a line, who may enter, and which ports are in flight.
 use Rattle.std.proofs.Common.{Bool, List, None, Option, Some, [], ap, append-nil, append_assoc, arith, cond, eqb, false, inl, inr, length, ne_eqb, not, refl, rules, subst, sym, true, ℕ, ◌&&◌, ◌++◌, ◌+◌, ◌<◌, ◌||◌, ◌∙◌, ◌∷◌, ◌≡◌, ◌≤◌, ◌⊎◌, ⊎_elim}
-use Rattle.hub_core.proofs.Words.{AgentId, AllByRecursion, CastNow, Client, EndId, EndNow, Envelope, Facts, InFlight, IsAllWaiting, IsNext, IsOfEnd, Kind, LineNow, Member, Out, Place, Port, Prefix, Sender, Sound, SoundPlaces, With, Worker, and_parts, by, eqb-true, false≢true, filter, flights, owner, owner_by, with_agent, is_free, speaker, source_for, may_put_notice, holder, is_at, is_first, is_here, is_holder, is_named, is_out, is_queue, is_released, is_some, is_with, lines_of, list_all, maker_of, may_enter, may_leave_agent, names, naming, no_end, on_line, opened, option_and_then}
+use Rattle.hub_core.proofs.Words.{AgentId, AllByRecursion, CastNow, Client, EndId, EndNow, Envelope, Facts, InFlight, IsAllWaiting, IsNext, IsOfEnd, Kind, LineNow, Member, Out, Place, Port, Prefix, Sender, Sound, SoundPlaces, With, Worker, and_parts, by, eqb-true, false≢true, filter, flights, owner, owner_by, with_agent, is_free, speaker, source_for, port_place_allows_notice, holder, is_at, is_first, is_here, is_holder, is_named, is_out, is_queue, is_released, is_some, is_with, lines_of, list_all, maker_of, may_enter, may_leave_agent, names, naming, no_end, on_line, opened, option_and_then}
 use Rattle.hub_core.proofs.Words.{or_right, peer_of, phase_of_line, place, poster, poster_of, running, total, cases_lt}
 use Rattle.hub_core.proofs.Nexts.{SweptWith}
 use Rattle.hub_core.proofs.Items.{eqb_same, at_test}
@@ -318,11 +318,11 @@ heard_by : (f : Facts) (s : Sender) (p : Option ℕ) → peer_of (f.end s.end.0)
 heard_by f s None is h = absurd (false≢true (and_parts (eqb s.line.0 0) false h).1)
 heard_by f s (Some q) is h = let both = and_parts (eqb s.line.0 0) (is_here (f.end q).place) h in record { line = eqb-true s.line.0 0 both.0; peer = q; entangled = is; here = both.1 }
 
-pub heard_of : (f : Facts) (s : Sender) → may_put_notice f s ≡ true → Hears f s
+pub heard_of : (f : Facts) (s : Sender) → port_place_allows_notice f s ≡ true → Hears f s
 heard_of f s h = heard_by f s (peer_of (f.end s.end.0).kind) refl h
 
 pub hears_of : (f : Facts) (s : Sender) → may_enter f s ≡ true → Hears f s ⊎ (HoldsLine f s ⊎ SomeCasts f s)
-hears_of f s h = elim (is_some (poster f s)) as (λ b. is_some (poster f s) ≡ b → (b || may_put_notice f s) ≡ true → Hears f s ⊎ (HoldsLine f s ⊎ SomeCasts f s)) [
+hears_of f s h = elim (is_some (poster f s)) as (λ b. is_some (poster f s) ≡ b → (b || port_place_allows_notice f s) ≡ true → Hears f s ⊎ (HoldsLine f s ⊎ SomeCasts f s)) [
   | true ↦ λ speaks _. elim (speaks_of f s speaks) [
     | inl k ↦ inl (record { line = k.line; peer = k.peer; entangled = k.entangled; here = ap is_here k.has })
     | inr k ↦ inr k
@@ -331,7 +331,7 @@ hears_of f s h = elim (is_some (poster f s)) as (λ b. is_some (poster f s) ≡ 
 ] refl h
 
 pub may_as : (g : Facts) (s : Sender) (q : ℕ) → s.line.0 ≡ 0 → peer_of (g.end s.end.0).kind ≡ Some q → is_here (g.end q).place ≡ true → may_enter g s ≡ true
-may_as g s q line peer here = or_right (is_some (poster g s)) (may_put_notice g s) (rw (line, peer, here) refl)
+may_as g s q line peer here = or_right (is_some (poster g s)) (port_place_allows_notice g s) (rw (line, peer, here) refl)
 
 pub not_here : (p : Option Place) → p ≡ Some InFlight → is_here p ≡ true → ⊥
 not_here p is h = false≢true (sym (ap is_here is) ∙ h)

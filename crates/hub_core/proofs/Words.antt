@@ -49,7 +49,7 @@ pub use Rattle.hub_core.specs.MailboxOf.{EachShows, GoesOn, after_pair, first_ma
 pub use Rattle.hub_core.specs.MailboxOf.{HoldsKept, MailboxesShow, ShowsMailbox}
 pub use Rattle.hub_core.specs.Taking.{is_arrived, is_released, may_close, may_take_over}
 pub use Rattle.hub_core.specs.Sender.{numbers, up_to, Prefix, Rises, by, count_in_queue, in_queue}
-pub use Rattle.hub_core.specs.Posting.{name_of, put_there, may_put_notice, holder, is_at, is_distinct, is_empty, is_fitting, is_good, is_here, is_inside, is_out, is_posting, is_with, listing, listing_of, may_enter, may_leave_agent, may_post}
+pub use Rattle.hub_core.specs.Posting.{name_of, put_there, port_place_allows_notice, holder, is_at, is_distinct, is_empty, is_fitting, is_good, is_here, is_inside, is_out, is_posting, is_with, listing, listing_of, may_enter, may_leave_agent, may_post_on_line}
 pub use Rattle.hub_core.specs.Posting.{is_free, is_holder, owner, owner_by, with_agent, phase_of_line, poster, poster_of, push_answer_of, running, speaker}
 pub use Rattle.hub_core.specs.QueueMachine.{IsNamed, IsQueue, MayPush, Queue, QueueLaws, new_queue, pop_of, popped, pushed}
 pub use Rattle.hub_core.specs.Roster.{CastNow, RosterNow, cast_after, cast_to, source_for, group_named, has_end, is_first, is_of_group, is_same_group, no_roster, roster, roster_after, without}

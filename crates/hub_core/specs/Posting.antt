@@ -64,12 +64,12 @@ is_here (Some Swept) = true
 is_here _ = false
 
 -- whether the place of the port that posts on the line lets its poster put a notice
-abbrev pub may_put_notice : Facts → Sender → Bool
-may_put_notice f s = s.line.0 == 0 && is_here (option_and_then (λ q. (f.end q).place) (peer_of (f.end s.end.0).kind))
+abbrev pub port_place_allows_notice : Facts → Sender → Bool
+port_place_allows_notice f s = s.line.0 == 0 && is_here (option_and_then (λ q. (f.end q).place) (peer_of (f.end s.end.0).kind))
 
 -- whether a poster may enter: to post, or to put a notice alone
 abbrev pub may_enter : Facts → Sender → Bool
-may_enter f s = is_some (poster f s) || may_put_notice f s
+may_enter f s = is_some (poster f s) || port_place_allows_notice f s
 
 -- An Enter tests that its poster may enter and is out, and that no notice was put on the line; then it looks for a
 -- retired queue and for a closed end.
@@ -164,10 +164,10 @@ push_answer posting n f s ports body refused =
 -- then memory. The envelope is of agent 0, whichever agent the port is with.
 abbrev pub notice_answer : Bool → ℕ → Facts → Sender → Bool → Outcome
 notice_answer posting n f s refused =
-    if not (posting && may_put_notice f s) then outcome.NotNow
+    if not (posting && port_place_allows_notice f s) then outcome.NotNow
     else (if refused then outcome.NoMemory
     else outcome.Accepted (name_of n f s (record { 0 = 0 })))
 
 -- whether a message may be posted on the line: an agent that may post holds it, its poster is out, and no notice was put
-abbrev pub may_post : Facts → Sender → Bool
-may_post f s = is_some (poster f s) && is_out (phase_of_line f s) && not (f.line s.end.0 s.line.0).noticed
+abbrev pub may_post_on_line : Facts → Sender → Bool
+may_post_on_line f s = is_some (poster f s) && is_out (phase_of_line f s) && not (f.line s.end.0 s.line.0).noticed

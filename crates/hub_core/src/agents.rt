@@ -88,7 +88,7 @@ impl Core {
             × (self.new ≡ queue_core agent kind self.old o))
             (λ _. self.new ≡ self.old) }
     {
-        if !self.is_running(agent) || self.queue_count_of_kind(kind, agent) != 0 {
+        if !self.is_running(agent) || self.agent_queue_count_of_kind(kind, agent) != 0 {
             return Ok(Outcome::NotNow);
         }
         let number = self.ends.len();
@@ -146,7 +146,7 @@ impl Core {
     }
 
     /// How many queues of a kind an agent has.
-    pub(crate) fn queue_count_of_kind(&self, kind: Kind, agent: AgentId) -> u32
+    pub(crate) fn agent_queue_count_of_kind(&self, kind: Kind, agent: AgentId) -> u32
         ensures { result ≡ count_of kind (slice_get self.now.agents agent.0) }
     {
         match self.agent_at(agent) {
@@ -248,7 +248,11 @@ impl Core {
     {
         let mut ends = Vec::new(self.alloc);
         for (number, end) in self.ends.iter().enumerate() {
-            add_end_if(&mut ends, end.place.is_at(agent), number)?;
+            add_end_if(
+                &mut ends,
+                end.place.is_with_or_arrived_at_agent(agent),
+                number,
+            )?;
         }
         Ok(Items::from_vec(ends))
     }
@@ -269,7 +273,7 @@ impl Core {
     }
 
     /// A poster of the agent came to this phase: it is away now, or it left.
-    pub(crate) fn update_away_poster_count(&mut self, owner: Option<AgentId>, phase: Phase)
+    pub(crate) fn update_away_poster_count_of_agent(&mut self, owner: Option<AgentId>, phase: Phase)
         ensures { self.new ≡ record self.old {
           agents = change_owner (counted phase) owner self.old.agents;
         } }

@@ -50,7 +50,7 @@ impl Core {
         }
         self.ends.reserve(1)?;
         // Only a step that makes an end takes memory for its group.
-        let Some(group) = self.roster.members.group_from_origin_and_name(agent, name)? else {
+        let Some(group) = self.roster.members.group_of_agent_and_name(agent, name)? else {
             return Ok(Outcome::NoOrigin);
         };
         let end = End::new(self.alloc, agent, Kind::Member(agent))?;
@@ -76,7 +76,7 @@ impl Core {
         if let Some(refusal) = self.cast_refusal(end, ports.as_slice()) {
             return Ok(refusal);
         }
-        let ends = self.roster.members.others(self.alloc, end.0)?;
+        let ends = self.roster.members.others_of_same_group(self.alloc, end.0)?;
         let left = to_deque(self.alloc, &ends)?;
         self.roster.begin_cast(end, body, left);
         Ok(Outcome::Destinations(Items::from_vec(ends)))

@@ -31,7 +31,7 @@ pub enum Place {
 
 impl Place {
     /// Whether an agent has an end of this place, or the end has arrived at it.
-    pub(crate) fn is_at(self, agent: AgentId) -> bool
+    pub(crate) fn is_with_or_arrived_at_agent(self, agent: AgentId) -> bool
         ensures { result ≡ (is_with agent (Some self) || is_arrived agent (Some self)) }
     {
         matches!(self, Place::With(holder) | Place::Arrived(holder) if holder == agent)
@@ -91,7 +91,7 @@ impl End {
             newest: 0,
             taker: 0,
             looked: 0,
-            lines: Lines::new(alloc, kind.line_count())?,
+            lines: Lines::with_line_count(alloc, kind.line_count())?,
             queues: Queues::one_empty_queue(alloc)?,
         })
     }
@@ -110,7 +110,7 @@ impl End {
     }
 
     /// Whether nobody is inside or being turned back at a queue, or it is clear.
-    pub(crate) fn is_queue_free_of_posters(&self, epoch: u32) -> bool
+    pub(crate) fn is_queue_of_epoch_free_of_posters(&self, epoch: u32) -> bool
         ensures { result ≡ kept_settled self.now epoch }
     {
         u64::from(epoch) < self.looked || !self.lines.has_poster_at_queue(epoch)
@@ -177,7 +177,7 @@ impl End {
         let line = envelope.line;
         let has_noticed = envelope.notice;
         let position = (found.epoch - self.taker) as usize;
-        self.queues.put(position, envelope)?;
+        self.queues.put_in_queue_at(position, envelope)?;
         let put = found.put + 1;
         self.lines.set(
             line,

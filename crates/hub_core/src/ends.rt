@@ -70,11 +70,11 @@ impl Core {
         let served = &mut self.ends[end.0 as usize];
         match served.queues.take_first() {
             Some(envelope) => {
-                self.set_places(envelope.ports.as_slice(), Place::Arrived(agent));
+                self.set_places_of_ports(envelope.ports.as_slice(), Place::Arrived(agent));
                 Outcome::Got(envelope)
             }
             None if served.taker >= served.newest => Outcome::Empty,
-            None if !served.is_queue_free_of_posters(served.taker) => Outcome::Busy,
+            None if !served.is_queue_of_epoch_free_of_posters(served.taker) => Outcome::Busy,
             None => {
                 served.advance_to_next_queue();
                 Outcome::Again
@@ -83,7 +83,7 @@ impl Core {
     }
 
     /// The queue that is looked at becomes clear where nobody is inside or being turned back there.
-    pub(crate) fn mark_next_queue_if_clear(&mut self, end: EndId) -> Outcome
+    pub(crate) fn mark_queue_clear_if_free_of_posters(&mut self, end: EndId) -> Outcome
         ensures { let found = slice_get self.old.ends end.0 in
             let epoch = option_and_then kept_looked found in
             let looked = found_at (λ k. is_anyone_at k (kept_lines found)) epoch in
@@ -135,7 +135,7 @@ impl Core {
         } }
     {
         for envelope in envelopes {
-            self.set_places(envelope.ports.as_slice(), Place::Swept);
+            self.set_places_of_ports(envelope.ports.as_slice(), Place::Swept);
         }
     }
 
@@ -167,7 +167,7 @@ impl Core {
             return Ok(Outcome::NoMemory);
         }
         let newest = found.newest + 1;
-        let adopting = self.agent_after_adoption(found.kind, agent)?;
+        let adopting = self.agent_state_after_adoption(found.kind, agent)?;
         self.adopt_with_new_queue(end, agent)?;
         self.set_agent(agent, adopting);
         Ok(Outcome::Adopted(newest))
@@ -189,13 +189,17 @@ impl Core {
 
     /// The agent, after an end of this kind came to it: of a port with its own poster away that
     /// poster is the agent's.
-    fn agent_after_adoption(&self, kind: Kind, agent: AgentId) -> Result<Option<Agent>, OutOfMemory>
+    fn agent_state_after_adoption(
+        &self,
+        kind: Kind,
+        agent: AgentId,
+    ) -> Result<Option<Agent>, OutOfMemory>
         ensures { let released = is_released (seen self.now).line (Some kind) in
             IfOk result (λ found. found
             ≡ option_map (adopting released kind) (slice_get self.now.agents agent.0)) }
     {
         match self.agent_with_end_counted_if_queue(kind, agent)? {
-            Some(found) if !self.is_own_poster_outside_queue(kind) => Ok(Some(
+            Some(found) if !self.has_no_port_poster_inside_queue(kind) => Ok(Some(
                 found.with_updated_away_poster_count(Phase::Inside),
             )),
             found => Ok(found),
@@ -212,7 +216,7 @@ impl Core {
         if found.is_closed {
             return Outcome::Closed;
         }
-        if !self.can_close(end) {
+        if !self.may_end_be_closed(end) {
             return Outcome::NotNow;
         }
         let kind = found.kind;
@@ -224,17 +228,17 @@ impl Core {
         Outcome::Done
     }
 
-    pub(crate) fn can_close(&self, end: EndId) -> bool
+    pub(crate) fn may_end_be_closed(&self, end: EndId) -> bool
         ensures { result ≡ may_close (seen self.now) end.0 }
     {
         let Some(found) = self.end_at(end) else {
             return false;
         };
-        found.place.is_closable() && self.is_own_poster_outside_queue(found.kind)
+        found.place.is_closable() && self.has_no_port_poster_inside_queue(found.kind)
     }
 
     /// Whether an end of this kind is no port whose own poster is inside or being turned back.
-    fn is_own_poster_outside_queue(&self, kind: Kind) -> bool
+    fn has_no_port_poster_inside_queue(&self, kind: Kind) -> bool
         ensures { result ≡ is_released (seen self.now).line (Some kind) }
     {
         let Kind::Port(peer) = kind else {
@@ -264,7 +268,7 @@ impl Core {
         let kind = found.kind;
         let place = found.place;
         self.decrease_queue_count(kind, place);
-        self.set_place(end, Place::Arrived(agent));
+        self.set_place_of_end(end, Place::Arrived(agent));
         Outcome::Handed
     }
 

@@ -60,7 +60,7 @@ impl Model for Lines {
 
 impl Lines {
     /// So many lines that have put nothing.
-    pub(crate) fn new(alloc: Global, count: usize) -> Result<Lines, OutOfMemory>
+    pub(crate) fn with_line_count(alloc: Global, count: usize) -> Result<Lines, OutOfMemory>
         ensures { IfOk result (λ lines. lines ≡ replicate count first_line) }
     {
         let mut lines = Vec::new(alloc);

@@ -1,13 +1,13 @@
 //! The core, its dispatch, what several families of steps ask of agents, ends and lines, and what a
 //! core may be asked.
 //!
-//! A post is the steps Enter, Push and Leave of one line. `Core::let_poster_enter_queue` (`posting.rt`) asks
-//! `Core::may_poster_enter`, and answers `In`, or `Moved` at a retired queue and `Closed` at a
-//! closed end, where the poster isn't inside but has to leave as well. `Core::push` makes its tests
-//! in `Core::check_push`. `Core::put_with_ports` puts the envelope in its queue (`End::put`) and
-//! its ports in flight, which is answered `Accepted`; `TooManyPorts` and `NoMemory` change nothing.
-//! `Core::leave_queue` answers `Left`. Each of the three is answered `NotNow`, with nothing
-//! changed, where it can't be taken.
+//! A post is the steps Enter, Push and Leave of one line. `Core::let_poster_enter_queue`
+//! (`posting.rt`) asks `Core::may_poster_enter`, and answers `In`, or `Moved` at a retired queue
+//! and `Closed` at a closed end, where the poster isn't inside but has to leave as well.
+//! `Core::check_and_push_message` makes its tests in `Core::check_push`. `Core::put_with_ports`
+//! puts the envelope in its queue (`End::put`) and its ports in flight, which is answered
+//! `Accepted`; `TooManyPorts` and `NoMemory` change nothing. `Core::let_poster_leave_queue` answers
+//! `Left`. Each of the three is answered `NotNow`, with nothing changed, where it can't be taken.
 //!
 //! What a function answers is said by the definitions that a history is held to, over what the
 //! core keeps seen as facts (`seen`); what it changes is one table (`core_after`). The two stand in
@@ -19,8 +19,9 @@
 
 ghost use Rattle.std.specs.Prelude.{◌≡◌, [], true, option_map, slice_get, Some};
 ghost use Rattle.std.specs.Prelude.{IfOk, OnErr, MatchResult};
-ghost use Rattle.hub_core.specs.Posting.{holder, poster, poster_of, is_here, may_put_notice};
-ghost use Rattle.hub_core.specs.Posting.{may_enter, may_post, listing, owner_by, running, speaker};
+ghost use Rattle.hub_core.specs.Posting.{holder, is_here, listing, may_enter, may_post_on_line};
+ghost use Rattle.hub_core.specs.Posting.{owner_by, port_place_allows_notice, poster, poster_of};
+ghost use Rattle.hub_core.specs.Posting.{running, speaker};
 ghost use Rattle.hub_core.specs.Facts.{facts};
 ghost use Rattle.hub_core.specs.History.{History};
 ghost use Rattle.hub_core.specs.Laws.{InOrder};
@@ -130,13 +131,18 @@ impl Core {
             Action::Line(end, agent) => Ok(self.hold_free_line(end, agent)),
             Action::Back(sender) => Ok(self.release_line(sender)),
             Action::Enter(sender) => Ok(self.let_poster_enter_queue(sender)),
-            Action::Push(sender, ports, body) => self.push(sender, ports, body, memory_refused),
+            Action::Push(sender, ports, body) => self.check_and_push_message(
+                sender,
+                ports,
+                body,
+                memory_refused,
+            ),
             Action::Notice(sender) => self.put_notice(sender, memory_refused),
-            Action::Leave(sender) => Ok(self.leave_queue(sender)),
+            Action::Leave(sender) => Ok(self.let_poster_leave_queue(sender)),
             Action::Hop(sender) => Ok(self.move_line_to_next_queue(sender)),
             Action::Start(end) => Ok(self.start(end)),
             Action::Take(end) => Ok(self.take(end)),
-            Action::Look(end) => Ok(self.mark_next_queue_if_clear(end)),
+            Action::Look(end) => Ok(self.mark_queue_clear_if_free_of_posters(end)),
             Action::Adopt(end, agent) => self.adopt(end, agent, memory_refused),
             Action::Close(end) => Ok(self.close(end)),
             Action::Sweep(end) => self.sweep(end),
@@ -196,7 +202,7 @@ impl Core {
     /// The agent that posts on a line of an end of this kind, where one does: for a port's line the
     /// running one that has the port at the other side; for a channel's the one, running or ending,
     /// whose cast goes there next.
-    pub(crate) fn posting_agent_by_kind(
+    pub(crate) fn agent_posting_on_line_of_kind(
         &self,
         sender: Sender,
         kind: Kind,
@@ -218,12 +224,12 @@ impl Core {
     }
 
     /// The agent that posts on a line, where one does.
-    pub(crate) fn posting_agent(&self, sender: Sender) -> Option<AgentId>
+    pub(crate) fn agent_posting_on_line(&self, sender: Sender) -> Option<AgentId>
         ensures { result ≡ poster (seen self.now) sender }
     {
         let end = self.end_at(sender.end)?;
         let line = end.lines.get(sender.line).unwrap_or(Line::FIRST);
-        self.posting_agent_by_kind(sender, end.kind, line.held_by)
+        self.agent_posting_on_line_of_kind(sender, end.kind, line.held_by)
     }
 
     /// What is kept of a line. Where there is none it is one that has put nothing.
@@ -257,8 +263,8 @@ impl Core {
     }
 
     /// Whether the place of the port that posts on a line lets its poster put a notice.
-    pub(crate) fn may_put_notice(&self, sender: Sender) -> bool
-        ensures { result ≡ may_put_notice (seen self.now) sender }
+    pub(crate) fn port_place_allows_notice(&self, sender: Sender) -> bool
+        ensures { result ≡ port_place_allows_notice (seen self.now) sender }
     {
         let Some(end) = self.end_at(sender.end) else {
             return false;
@@ -273,16 +279,18 @@ impl Core {
     pub(crate) fn may_poster_enter(&self, sender: Sender) -> bool
         ensures { result ≡ may_enter (seen self.now) sender }
     {
-        self.posting_agent(sender).is_some() || self.may_put_notice(sender)
+        self.agent_posting_on_line(sender).is_some() || self.port_place_allows_notice(sender)
     }
 
     /// Whether a message may be posted on a line now: an agent that may post holds it, its poster
     /// is out, and no notice was put.
-    pub fn may_post(&self, sender: Sender) -> bool
-        ensures { (h : History) → Shows self.now h → result ≡ may_post (facts h) sender }
+    pub fn may_post_on_line(&self, sender: Sender) -> bool
+        ensures { (h : History) → Shows self.now h → result ≡ may_post_on_line (facts h) sender }
     {
         let line = self.line_of_sender_or_default(sender);
-        self.posting_agent(sender).is_some() && line.phase == Phase::Out && !line.has_noticed
+        self.agent_posting_on_line(sender).is_some()
+            && line.phase == Phase::Out
+            && !line.has_noticed
     }
 
     /// What a list of ports is to a message on a line now. Where no agent that may post holds the
@@ -293,7 +301,7 @@ impl Core {
         let Some(end) = self.end_at(sender.end) else {
             return Listing::Bad;
         };
-        let Some(agent) = self.posting_agent(sender) else {
+        let Some(agent) = self.agent_posting_on_line(sender) else {
             return Listing::Bad;
         };
         self.check_port_list_of_agent(sender, end.kind, agent, ports)
@@ -310,6 +318,6 @@ impl Core {
     pub fn may_close(&self, end: EndId) -> bool
         ensures { (h : History) → Shows self.now h → result ≡ may_close (facts h) end.0 }
     {
-        self.can_close(end)
+        self.may_end_be_closed(end)
     }
 }

@@ -52,11 +52,11 @@ impl Core {
         let owner = self.owner_of_line(sender);
         // The line is written right after it was read, so that it is looked for once.
         self.set_line(sender, Line { phase, ..found });
-        self.update_away_poster_count(owner, phase);
+        self.update_away_poster_count_of_agent(owner, phase);
         outcome
     }
 
-    pub(crate) fn leave_queue(&mut self, sender: Sender) -> Outcome
+    pub(crate) fn let_poster_leave_queue(&mut self, sender: Sender) -> Outcome
         ensures { (result ≡ leave_answer (seen self.old) sender)
             × (self.new ≡ core_after self.old result (action.Leave sender)) }
     {
@@ -67,7 +67,7 @@ impl Core {
         let phase = Phase::Out;
         let owner = self.owner_of_line(sender);
         self.set_line(sender, Line { phase, ..found });
-        self.update_away_poster_count(owner, phase);
+        self.update_away_poster_count_of_agent(owner, phase);
         self.roster.advance_cast_if_next(sender.end);
         Outcome::Left
     }
@@ -100,7 +100,7 @@ impl Core {
         Outcome::Hopped(epoch)
     }
 
-    pub(crate) fn push(
+    pub(crate) fn check_and_push_message(
         &mut self,
         sender: Sender,
         ports: Items<EndId>,
@@ -162,14 +162,14 @@ impl Core {
         let Some((kind, line)) = self.line_ready_to_push(sender) else {
             return Err(Outcome::NotNow);
         };
-        let Some(agent) = self.posting_agent_by_kind(sender, kind, line.held_by) else {
+        let Some(agent) = self.agent_posting_on_line_of_kind(sender, kind, line.held_by) else {
             return Err(Outcome::NotNow);
         };
         if ports.len() > MAX_PORTS {
             return Err(Outcome::TooManyPorts);
         }
         if !self.is_good_list(sender, kind, agent, ports)
-            || !self.may_kind_receive(kind, ports, body)
+            || !self.may_message_go_to_kind(kind, ports, body)
         {
             return Err(Outcome::NotNow);
         }
@@ -195,7 +195,7 @@ impl Core {
 
     /// Whether a message may go to an end of this kind: to a broadcast channel only the body of the
     /// cast, with no ports.
-    fn may_kind_receive(&self, kind: Kind, ports: &[EndId], body: &Body) -> bool
+    fn may_message_go_to_kind(&self, kind: Kind, ports: &[EndId], body: &Body) -> bool
         ensures { result ≡ is_fitting self.now.roster.cast (Some kind) ports.now body.now }
     {
         match kind {
@@ -220,7 +220,7 @@ impl Core {
         let Some((_, line)) = self.line_ready_to_push(sender) else {
             return Ok(Outcome::NotNow);
         };
-        if !self.may_put_notice(sender) {
+        if !self.port_place_allows_notice(sender) {
             return Ok(Outcome::NotNow);
         }
         if memory_refused {
@@ -263,7 +263,7 @@ impl Core {
         let count = listed.len();
         travelling[..count].copy_from_slice(listed);
         self.put(line, envelope)?;
-        self.set_places(&travelling[..count], Place::InFlight);
+        self.set_places_of_ports(&travelling[..count], Place::InFlight);
         Ok(())
     }
 
@@ -368,18 +368,18 @@ impl Core {
     }
 
     /// Gives each listed port a new place.
-    pub(crate) fn set_places(&mut self, ports: &[EndId], place: Place)
+    pub(crate) fn set_places_of_ports(&mut self, ports: &[EndId], place: Place)
         ensures { self.new ≡ record self.old {
           ends = moved_ends ports.now place self.old.ends;
         } }
     {
         for port in ports {
-            self.set_place(*port, place);
+            self.set_place_of_end(*port, place);
         }
     }
 
     /// Gives an end a new place.
-    pub(crate) fn set_place(&mut self, port: EndId, place: Place)
+    pub(crate) fn set_place_of_end(&mut self, port: EndId, place: Place)
         ensures { self.new ≡ record self.old { ends = end_moved place self.old.ends port } }
     {
         if let Some(end) = self.ends.get_mut(port.0 as usize) {

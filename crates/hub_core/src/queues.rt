@@ -9,11 +9,11 @@ use std::marker::Model;
 
 /// The waiting envelopes of a queue, in order of acceptance.
 #[derive(Drop)]
-struct Waiting {
+struct WaitingEnvelopes {
     envelopes: VecDeque<Envelope>,
 }
 
-impl Model for Waiting {
+impl Model for WaitingEnvelopes {
     ghost use Rattle.std.specs.Prelude.{List};
     ghost use Rattle.hub_envelope.specs.declared.envelope.Envelope.{Envelope};
 
@@ -22,11 +22,11 @@ impl Model for Waiting {
     ghost view = { λ w. w.envelopes.items };
 }
 
-impl Waiting {
-    fn none(alloc: Global) -> Waiting
+impl WaitingEnvelopes {
+    fn none(alloc: Global) -> WaitingEnvelopes
         ensures { result ≡ [] }
     {
-        Waiting {
+        WaitingEnvelopes {
             envelopes: VecDeque::new(alloc),
         }
     }
@@ -56,7 +56,7 @@ impl Waiting {
 /// Some queues of an end, in order.
 #[derive(Drop)]
 pub struct Queues {
-    queues: VecDeque<Waiting>,
+    queues: VecDeque<WaitingEnvelopes>,
 }
 
 impl Model for Queues {
@@ -74,7 +74,7 @@ impl Queues {
         ensures { IfOk result (λ queues. queues ≡ [] ∷ []) }
     {
         let mut queues = VecDeque::with_capacity(alloc, 1)?;
-        queues.push_back(Waiting::none(alloc))?;
+        queues.push_back(WaitingEnvelopes::none(alloc))?;
         Ok(Queues { queues })
     }
 
@@ -90,7 +90,7 @@ impl Queues {
         ensures { MatchResult result (λ _. self.new ≡ self.old ++ [] ∷ [])
             (λ _. self.new ≡ self.old) }
     {
-        self.queues.push_back(Waiting::none(alloc))?;
+        self.queues.push_back(WaitingEnvelopes::none(alloc))?;
         Ok(())
     }
 
@@ -102,7 +102,11 @@ impl Queues {
     }
 
     /// Puts an envelope last in a queue.
-    pub(crate) fn put(&mut self, position: usize, envelope: Envelope) -> Result<(), OutOfMemory>
+    pub(crate) fn put_in_queue_at(
+        &mut self,
+        position: usize,
+        envelope: Envelope,
+    ) -> Result<(), OutOfMemory>
         requires { position < length self.old }
         ensures ok { OnOk result (self.new
             ≡ slice_set self.old position (slice_index_or self.old position [] ++ envelope ∷ [])) }
@@ -151,7 +155,7 @@ impl Queues {
 }
 
 /// How many envelopes wait in these queues.
-fn envelope_count_in_queues(queues: &[Waiting]) -> Result<usize, OutOfMemory>
+fn envelope_count_in_queues(queues: &[WaitingEnvelopes]) -> Result<usize, OutOfMemory>
     ensures { IfOk result (λ n. n ≡ length (joined queues.now)) }
 {
     let mut count: usize = 0;

@@ -103,7 +103,7 @@ impl Members {
     }
 
     /// The group of the agent's channels of a name; `None` where the agent has no origin.
-    pub(crate) fn group_from_origin_and_name(
+    pub(crate) fn group_of_agent_and_name(
         &self,
         agent: AgentId,
         name: Text,
@@ -164,7 +164,11 @@ impl Members {
     }
 
     /// The other members of a member's group that haven't parted, in rising order.
-    pub(crate) fn others(&self, alloc: Global, number: u32) -> Result<Vec<EndId>, OutOfMemory>
+    pub(crate) fn others_of_same_group(
+        &self,
+        alloc: Global,
+        number: u32,
+    ) -> Result<Vec<EndId>, OutOfMemory>
         ensures { IfOk result (λ found. found.items ≡ kept_destinations self.now number) }
     {
         let mut others = Vec::new(alloc);

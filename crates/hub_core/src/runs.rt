@@ -36,7 +36,7 @@ impl Core {
     {
         let mut outcomes = Vec::with_capacity(alloc, steps.len())?;
         for step in steps {
-            let outcome = self.step_any(step)?;
+            let outcome = self.step_not_inlined(step)?;
             outcomes.push(outcome)?;
         }
         Ok(outcomes)
@@ -45,7 +45,7 @@ impl Core {
     /// Takes a step as `step` does, which is inlined, and clears room at its start for the answers
     /// of all steps that it may take. So posts and takes, which most steps are, have one each.
     #[inline(always)]
-    fn step_any(&mut self, step: Step) -> Result<Outcome, OutOfMemory>
+    fn step_not_inlined(&mut self, step: Step) -> Result<Outcome, OutOfMemory>
         ensures { IfOk result (λ o. FitsAndShows self.old self.new step o) }
     {
         let Step {

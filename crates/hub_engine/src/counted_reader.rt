@@ -62,11 +62,11 @@ impl<R: Read> CountedReader<R> {
         // The count goes with the call that asks the reader, in one place.
         self.reads += 1;
         let answer = self.reader.read(piece);
-        self.check_read_and_count_failure(answer)
+        self.check_read_result_and_count_failure(answer)
     }
 
     /// What the reader's answer means: an interruption is counted, and is no failure.
-    fn check_read_and_count_failure(
+    fn check_read_result_and_count_failure(
         &mut self,
         answer: io::Result<usize>,
     ) -> Result<Option<usize>, Device>

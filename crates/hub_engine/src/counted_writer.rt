@@ -49,7 +49,7 @@ impl<W: Write> CountedWriter<W> {
     {
         self.writes = self.writes.wrapping_add(1);
         let answer = self.writer.write(bytes);
-        self.check_write_and_count_failure(answer)
+        self.check_write_result_and_count_failure(answer)
     }
 
     /// Sees that what was written has gone out. `Device` comes where it may not have.
@@ -62,11 +62,14 @@ impl<W: Write> CountedWriter<W> {
     {
         self.flushes = self.flushes.wrapping_add(1);
         let answer = self.writer.flush();
-        self.check_flush_and_count_failure(answer)
+        self.check_flush_result_and_count_failure(answer)
     }
 
     /// What the answer to a write means: an error, or that no byte was taken, is a failure.
-    fn check_write_and_count_failure(&mut self, answer: io::Result<usize>) -> Result<usize, Device>
+    fn check_write_result_and_count_failure(
+        &mut self,
+        answer: io::Result<usize>,
+    ) -> Result<usize, Device>
         ensures ok { IfOk answer (λ count. 0 < count → result ≡ Ok count) }
         ensures none_taken { IfOk answer (λ count. count ≡ 0 → IsErr result) }
         ensures err { OnErr answer (IsErr result) }
@@ -80,7 +83,7 @@ impl<W: Write> CountedWriter<W> {
     }
 
     /// What the answer to a flush means: an error is a failure.
-    fn check_flush_and_count_failure(&mut self, answer: io::Result<()>) -> Result<(), Device>
+    fn check_flush_result_and_count_failure(&mut self, answer: io::Result<()>) -> Result<(), Device>
         ensures ok { OnOk answer (IsOk result) }
         ensures err { OnErr answer (IsErr result) }
         ensures failures { CountsFailure result (failed_writes self.old) (failed_writes self.new) }

@@ -55,7 +55,7 @@ pub fn read_input<R: Read>(
     let mut input = Vec::new(alloc);
     let mut piece = zeros(alloc, PIECE)?;
     loop {
-        if append_piece_or_detect_end(reader, &mut piece, &mut input)? {
+        if append_piece_or_detect_input_end(reader, &mut piece, &mut input)? {
             return Ok(input);
         }
     }
@@ -63,7 +63,7 @@ pub fn read_input<R: Read>(
 
 /// One read. It tells whether the input has ended; a read that is interrupted adds nothing. What
 /// neither was interrupted nor gave a byte is the end.
-fn append_piece_or_detect_end<R: Read>(
+fn append_piece_or_detect_input_end<R: Read>(
     reader: &mut CountedReader<R>,
     piece: &mut [u8],
     input: &mut Vec<u8>,

@@ -76,7 +76,7 @@ fn after_members(text: &[u8], levels: usize) -> Option<&[u8]>
     let mut before: Option<&[u8]> = None;
     loop {
         let (key, value) = split_member_key(rest)?;
-        if !may_key_follow(before, key) {
+        if !is_key_in_order(before, key) {
             return None;
         }
         before = Some(key);
@@ -90,7 +90,7 @@ fn after_members(text: &[u8], levels: usize) -> Option<&[u8]>
 }
 
 /// Whether a member may have the key, which stands behind the one before it in byte order.
-fn may_key_follow(before: Option<&[u8]>, key: &[u8]) -> bool
+fn is_key_in_order(before: Option<&[u8]>, key: &[u8]) -> bool
     ensures { IsTrue result → IsAbove (option_map (λ k. k.now) before.entry) key.now }
 {
     match before {
@@ -190,7 +190,7 @@ fn after_whole_number(text: &[u8]) -> Option<&[u8]>
 fn after_positive_number(text: &[u8]) -> Option<&[u8]>
     ensures { IfSome result (λ rest. IsNumberBefore text.now rest.now) }
 {
-    let count = digit_count(text);
+    let count = leading_digit_count(text);
     if count == 0 || count > MAX_DIGITS || text[0] == b'0' {
         return None;
     }
@@ -198,7 +198,7 @@ fn after_positive_number(text: &[u8]) -> Option<&[u8]>
 }
 
 /// How many decimal digits stand at the front.
-fn digit_count(text: &[u8]) -> usize
+fn leading_digit_count(text: &[u8]) -> usize
     ensures within { result ≤ length text.now }
     ensures digits { (k : ℕ) → k < result → is_ascii_digit (slice_index text.now k) ≡ true }
 {

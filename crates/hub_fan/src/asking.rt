@@ -61,7 +61,7 @@ fn take_from_lines_of_stage<M: Drop>(
             match take_from(&mut lines[line]) {
                 LineTaken::Item(message) => return FanTaken::Message(line, message),
                 LineTaken::Ended => return FanTaken::Ended(line),
-                LineTaken::Empty => hints.record_miss(line),
+                LineTaken::Empty => hints.record_empty_line(line),
             }
         }
     }
@@ -71,7 +71,7 @@ fn take_from_lines_of_stage<M: Drop>(
 /// Asks the lines in turn, from this one on, those that are ready first. It stops at the first that
 /// gives something.
 #[inline(always)]
-fn take_ready_lines_first<M: Drop>(
+fn take_one_asking_ready_lines_first<M: Drop>(
     lines: &mut [Option<LineTaker<M>>],
     next: usize,
     ready: u64,
@@ -107,7 +107,7 @@ pub(crate) fn take_in_turn<M: Drop>(
     ensures from { IfFrom (λ i. i < length lines.old) result.0 }
     ensures some { result.0 ≢ Disabled }
 {
-    let taken = take_ready_lines_first(lines, next, ready, hints);
+    let taken = take_one_asking_ready_lines_first(lines, next, ready, hints);
     let ended = match &taken {
         FanTaken::Ended(line) => lines[*line].take(),
         _ => None,

@@ -6,7 +6,7 @@ ghost use Rattle.hub_fan.specs.Fans.{IsFree, IsInUse};
 use crate::OutOfMemory;
 use crate::asking::take_in_turn;
 use crate::closing::{ClosedFan, FanGrave};
-use crate::hints::{FanWords, Hints, bit_of};
+use crate::hints::{FanWords, Hints, bit_of_line};
 use crate::places::{any_place_has_item_or_end, shut_all};
 use hub_channel::Armed;
 use hub_line::{LinePoster, LineTaker, NotPosted, open_line};
@@ -61,7 +61,7 @@ pub struct FanPoster<M> {
 }
 
 /// The first place that is free; where none is, the one behind the last.
-fn first_free_place<M: Drop>(lines: &[Option<LineTaker<M>>]) -> usize
+fn first_free_or_new_place<M: Drop>(lines: &[Option<LineTaker<M>>]) -> usize
     ensures most { result ≤ length lines.now }
     ensures free { IsFree (slice_get lines.now result) }
     ensures least { (j : ℕ) → j < result → IsInUse (slice_get lines.now j) }
@@ -105,7 +105,7 @@ impl<M: Drop> Fan<M> {
     ghost use Rattle.hub_fan.specs.declared.fan.NotOpened.TheVariants.{Full};
 
     /// A fan with no line, which isn't started.
-    pub fn open(alloc: Global) -> Result<Fan<M>, OutOfMemory>
+    pub fn open_empty(alloc: Global) -> Result<Fan<M>, OutOfMemory>
         ensures { IfOk result (λ fan. (fan.lines.items ≡ []) × (fan.is_started ≡ false)) }
     {
         Ok(Fan {
@@ -131,7 +131,7 @@ impl<M: Drop> Fan<M> {
         ensures others { (self.new.next ≡ self.old.next)
             × (self.new.is_started ≡ self.old.is_started) }
     {
-        let line = first_free_place(self.lines.as_slice());
+        let line = first_free_or_new_place(self.lines.as_slice());
         if line >= FAN_LINES {
             return Err(NotOpened::Full);
         }
@@ -144,7 +144,7 @@ impl<M: Drop> Fan<M> {
         if put_line_in_place(&mut self.lines, line, taker).is_err() {
             return Err(NotOpened::OutOfMemory);
         }
-        let bit = bit_of(line);
+        let bit = bit_of_line(line);
         Ok((line, FanPoster { to, bit, words }))
     }
 

@@ -49,7 +49,7 @@ impl FanWords {
 }
 
 /// The bit of a line.
-pub(crate) fn bit_of(line: usize) -> u64 {
+pub(crate) fn bit_of_line(line: usize) -> u64 {
     1 << (line % 64)
 }
 
@@ -80,8 +80,8 @@ impl Hints {
     }
 
     /// A line that was asked first gave nothing.
-    pub(crate) fn record_miss(&mut self, line: usize) {
-        self.known &= !bit_of(line);
+    pub(crate) fn record_empty_line(&mut self, line: usize) {
+        self.known &= !bit_of_line(line);
         self.misses = self.misses.wrapping_add(1);
     }
 

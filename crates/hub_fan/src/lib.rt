@@ -8,7 +8,7 @@
 //! the token, or the look finds what came before.
 //!
 //! ```rust
-//! let mut fan = Fan::open(alloc)?;
+//! let mut fan = Fan::open_empty(alloc)?;
 //! let (line, mut poster) = fan.open_line()?;
 //! fan.start();
 //! poster.post(message)?;

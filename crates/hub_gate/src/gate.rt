@@ -131,7 +131,11 @@ fn allocate_gate_memory<T: Right>(
 }
 
 /// Puts each right in the slot of its line, where the seat has all slots in hand, in order.
-fn fill_slots<T: Right>(slots: &GateSteps<T>, seat: &mut GateSeat<T>, mut rights: Vec<T>)
+fn fill_slots_with_rights<T: Right>(
+    slots: &GateSteps<T>,
+    seat: &mut GateSeat<T>,
+    mut rights: Vec<T>,
+)
     requires here { seat.old.table_id ≡ slots.now.table_id }
     requires held { seat.old.me.1 ≡ numbered 0 (replicate (length rights.items) None) }
     ensures stays { (seat.new.table_id ≡ seat.old.table_id) × (seat.new.id ≡ seat.old.id) }
@@ -146,7 +150,11 @@ fn fill_slots<T: Right>(slots: &GateSteps<T>, seat: &mut GateSeat<T>, mut rights
 }
 
 /// Puts each right in its slot, and makes the first seat the keeper's.
-fn fill_slots_and_open<T: Right>(slots: &GateSteps<T>, seat: &mut GateSeat<T>, rights: Vec<T>)
+fn fill_slots_with_rights_and_open<T: Right>(
+    slots: &GateSteps<T>,
+    seat: &mut GateSeat<T>,
+    rights: Vec<T>,
+)
     requires table { IsSeatOf slots.now.table_id seat.old.table_id }
     requires slots { slots.now.table_id.slots ≡ length rights.items }
     requires fresh { seat.old.me ≡ (Fresh (map T.tag rights.items), []) }
@@ -155,12 +163,12 @@ fn fill_slots_and_open<T: Right>(slots: &GateSteps<T>, seat: &mut GateSeat<T>, r
     ensures stays { seat.new.table_id ≡ seat.old.table_id }
 {
     slots.load::<Gather>(seat, 0);
-    fill_slots(slots, seat, rights);
+    fill_slots_with_rights(slots, seat, rights);
     slots.load::<Open>(seat, 0);
 }
 
 /// Cuts a seat for each line off the keeper's, in order.
-fn make_line_entries<T: Right>(
+fn make_entry_per_line<T: Right>(
     table: &Arc<GateTable<T>>,
     seat: &mut GateSeat<T>,
     mut shares: Vec<Arc<GateTable<T>>>,
@@ -213,8 +221,8 @@ impl<T: Right> Gate<T> {
             mut entries,
             rights: room,
         } = reserved;
-        fill_slots_and_open(&table.shared, &mut seat, rights);
-        make_line_entries(&table, &mut seat, shares, &mut entries);
+        fill_slots_with_rights_and_open(&table.shared, &mut seat, rights);
+        make_entry_per_line(&table, &mut seat, shares, &mut entries);
         let keeper = Keeper {
             table,
             seat,

@@ -169,7 +169,7 @@ impl<T: Right> Keeper<T> {
 
     /// The last word of the gate, where no line has its entry any more: it is taken apart, and the
     /// rights that are at home are dropped. Else the keeper comes back.
-    pub fn try_into_last_word(self) -> Result<u64, Keeper<T>>
+    pub fn try_into_last_gate_word(self) -> Result<u64, Keeper<T>>
         ensures last { IfOk result (IsLastWord self.at) }
         ensures back { IfErr result (λ keeper. keeper ≡ self) }
     {

@@ -10,4 +10,4 @@ mod order;
 
 pub use hub_envelope::OutOfMemory;
 pub use life::{Event, Life, LifeError, State, prove_lifecycle_laws};
-pub use order::{Order, prove_order_laws};
+pub use order::{Order, prove_laws_of_order_to_stop};

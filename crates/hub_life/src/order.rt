@@ -136,7 +136,7 @@ impl Order {
 /// that none gave.
 /// `stays`: whatever steps the seats make, an order that was given stays given, and the word with
 /// it.
-pub fn prove_order_laws()
+pub fn prove_laws_of_order_to_stop()
     ensures shows { RuleShowsOrder (⟦<OrderRule as TableRule<(), OrderView, ()>>⟧.holds tt) }
     ensures stays { StaysGiven (⟦<OrderRule as TableRule<(), OrderView, ()>>⟧.holds tt)
         ⟦<Give as Play<(), OrderView>>⟧.then ⟦<Seek as Play<(), OrderView>>⟧.then

@@ -13,7 +13,7 @@ use rtrb::{Consumer, Producer};
 use std::alloc::Global;
 
 /// What waits in the ring in use, which is the taker's.
-fn count_in_ring<T: Drop>(
+fn count_waiting_in_ring<T: Drop>(
     source: &mut Source<T>,
     feed: &mut Option<Feed<T>>,
     tracks: &Consumer<Track<T>, Global, Chained>,
@@ -34,7 +34,7 @@ fn count_in_ring<T: Drop>(
 }
 
 /// What waits in a line of which both ends are at hand.
-fn count_if_in_one_ring<T: Drop>(
+fn count_waiting_unless_in_several_rings<T: Drop>(
     source: &mut Source<T>,
     tracks: &mut Consumer<Track<T>, Global, Chained>,
     ahead: &mut Ahead<T>,
@@ -61,7 +61,7 @@ fn count_if_in_one_ring<T: Drop>(
     }
     tracks.slots_beside(rail);
     match ahead {
-        Ahead::Open => Some(count_in_ring(source, feed, tracks, rail)),
+        Ahead::Open => Some(count_waiting_in_ring(source, feed, tracks, rail)),
         Ahead::Next(_) => None,
         Ahead::Last => None,
     }
@@ -74,7 +74,10 @@ impl<T: Drop> LineTaker<T> {
 
     /// How many items wait, for a thread that has both ends: what was taken, followed by what
     /// waits, is what was posted. `None` where they may wait in more than one ring.
-    pub fn count_waiting_with_poster(&mut self, poster: &mut LinePoster<T>) -> Option<usize>
+    pub fn count_waiting_between_poster_and_taker(
+        &mut self,
+        poster: &mut LinePoster<T>,
+    ) -> Option<usize>
         requires { IsLine poster.old self.old }
         ensures taker { SameTaker self.old self.new × (taken self.new ≡ taken self.old) }
         ensures poster { SamePoster poster.old poster.new
@@ -84,7 +87,7 @@ impl<T: Drop> LineTaker<T> {
         ensures none { result ≡ None → KnowsItsRingOver self.new }
         ensures others { (self.new.told ≡ self.old.told) × (self.new.empties ≡ self.old.empties) }
     {
-        count_if_in_one_ring(
+        count_waiting_unless_in_several_rings(
             &mut self.source,
             &mut self.rail,
             &mut self.ahead,

@@ -127,7 +127,7 @@ fn end_line<T: Drop>(feed: &mut Option<Feed<T>>, rail: &mut Producer<Track<T>, G
 
 /// Does what a notice of the taker asks for, and answers whether it is done.
 #[cold]
-fn carry_out_notice<T: Drop>(
+fn carry_out_request_of_taker<T: Drop>(
     alloc: Global,
     notice: u64,
     feed: &mut Option<Feed<T>>,
@@ -173,7 +173,7 @@ fn post_unless_ended<T: Drop>(
     if !make_room(alloc, used, rail) {
         return Err((NotPosted::OutOfMemory, item));
     }
-    used.push(item);
+    used.push_assuming_room(item);
     Ok(())
 }
 
@@ -184,14 +184,14 @@ impl<T: Drop> LinePoster<T> {
 
     /// Does what the taker has asked for since the last call.
     #[inline(always)]
-    fn handle_pending_notice(&mut self)
+    fn handle_request_of_taker(&mut self)
         ensures line { SamePoster self.old self.new }
         ensures same { posted self.new ≡ posted self.old }
         ensures over { IsOver self.old → IsOver self.new }
     {
         let notice = self.notices.load(Ordering::SeqCst);
         if notice != self.heeded
-            && carry_out_notice(self.alloc, notice, &mut self.feed, &mut self.rail)
+            && carry_out_request_of_taker(self.alloc, notice, &mut self.feed, &mut self.rail)
         {
             self.heeded = notice;
         }
@@ -206,7 +206,7 @@ impl<T: Drop> LinePoster<T> {
         ensures closed { IfErr result (λ e. (e.0 ≡ Closed) ↔ IsOver self.new) }
         ensures over { IsOver self.old → IsOver self.new }
     {
-        self.handle_pending_notice();
+        self.handle_request_of_taker();
         post_unless_ended(self.alloc, &mut self.feed, &mut self.rail, item)
     }
 

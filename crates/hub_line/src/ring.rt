@@ -76,7 +76,7 @@ impl<T: Drop> Feed<T> {
 
     /// Posts an item, for which there is room.
     #[inline]
-    pub(crate) fn push(&mut self, item: T)
+    pub(crate) fn push_assuming_room(&mut self, item: T)
         requires { 0 < free self.old }
         ensures same { SameFeed self.old self.new }
         ensures fed { fed self.new ≡ fed self.old ++ item ∷ [] }

@@ -84,14 +84,26 @@ fn a_line_that_was_behind_goes_on_in_a_small_ring(rt: HostRuntime) -> Result<(),
 #[test]
 fn both_ends_know_what_waits(rt: HostRuntime) -> Result<(), Fail> {
     let (mut poster, mut taker) = open_line(rt.alloc())?;
-    assert_eq!(rt; taker.count_waiting_with_poster(&mut poster), Some(0));
+    assert_eq!(rt;
+        taker.count_waiting_between_poster_and_taker(&mut poster),
+        Some(0)
+    );
     assert!(rt; posts(&mut poster, 0, 16));
-    assert_eq!(rt; taker.count_waiting_with_poster(&mut poster), Some(16));
+    assert_eq!(rt;
+        taker.count_waiting_between_poster_and_taker(&mut poster),
+        Some(16)
+    );
     assert!(rt; posts(&mut poster, 16, 17));
-    assert_eq!(rt; taker.count_waiting_with_poster(&mut poster), None);
+    assert_eq!(rt;
+        taker.count_waiting_between_poster_and_taker(&mut poster),
+        None
+    );
     assert!(rt; takes(&mut taker, 0, 16));
     assert!(rt; taker.has_item_or_end());
-    assert_eq!(rt; taker.count_waiting_with_poster(&mut poster), Some(1));
+    assert_eq!(rt;
+        taker.count_waiting_between_poster_and_taker(&mut poster),
+        Some(1)
+    );
     Ok(())
 }
 

@@ -11,7 +11,7 @@ pub trait Hears<T> {
     ghost told: { Self → Option (List T) };
 
     /// That was done. It may wait.
-    fn tell<R: Wait>(&mut self, rt: &R, done: T)
+    fn tell_done<R: Wait>(&mut self, rt: &R, done: T)
         ensures { told self.new ≡ option_map (λ list. list ++ done ∷ []) (told self.old) };
 }
 
@@ -24,7 +24,7 @@ impl<T: Drop> Hears<T> for Unheard {
 
     ghost told = { λ _. None };
 
-    fn tell<R: Wait>(&mut self, _rt: &R, _done: T) {}
+    fn tell_done<R: Wait>(&mut self, _rt: &R, _done: T) {}
 }
 
 /// It keeps all that it is told, and waits where there is no memory until there is.
@@ -33,7 +33,7 @@ impl<T> Hears<T> for Vec<T> {
 
     ghost told = { λ list. Some list.items };
 
-    fn tell<R: Wait>(&mut self, rt: &R, done: T) {
+    fn tell_done<R: Wait>(&mut self, rt: &R, done: T) {
         for _ in rt.forever() {
             if self.reserve(1).is_ok() {
                 self.push_reserved(done);

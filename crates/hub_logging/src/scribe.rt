@@ -13,7 +13,9 @@ ghost use Rattle.hub_trace.specs.declared.log_entry.LogEntry.TheVariants.{
 
 use hub_envelope::{AgentId, Body, EndId, Envelope, OutOfMemory, Posted};
 use hub_loop::Handler;
-use hub_trace::{Content, Log, MAX_END, MAX_EPOCH, Payload, is_port_list, is_posted_within_limits};
+use hub_trace::{
+    Content, Log, MAX_END, MAX_EPOCH, Payload, is_envelope_name_within_limits, is_port_list,
+};
 use std::alloc::Global;
 use std::collections::BTreeSet;
 use std::marker::Model;
@@ -196,7 +198,7 @@ impl Scribe {
         }) }
         ensures err { OnErr result (self.new ≡ self.old) }
     {
-        if !is_posted_within_limits(&posted) {
+        if !is_envelope_name_within_limits(&posted) {
             return Err(OutOfMemory);
         }
         self.log.record_put(posted, content)
@@ -212,7 +214,7 @@ impl Scribe {
         ensures err { OnErr result (self.new ≡ self.old) }
     {
         let posted = Posted::of_envelope(envelope);
-        if !is_posted_within_limits(&posted) {
+        if !is_envelope_name_within_limits(&posted) {
             return Err(OutOfMemory);
         }
         let content = self.content_of_delivery(envelope)?;

@@ -125,17 +125,17 @@ impl<H: Handler + Drop, C: Checkpoint + Drop> EventLoop<H, C> {
             × (line.now.name.end ≡ end)) }
         ensures none { IfNone result (HoldsNoLine self.old.holding.ends.held end) }
     {
-        let key = self.holding.ends.find_line_to(end)?;
+        let key = self.holding.ends.find_line_for_destination(end)?;
         self.holding.ends.mark_and_borrow(key)?.as_line_mut()
     }
 
     /// Whether it holds a line that posts at the end of this number.
-    pub fn has_line_to(&self, end: EndId) -> bool
+    pub fn has_line_for_destination(&self, end: EndId) -> bool
         ensures some { result ≡ true → (line : StandSeat)
             × Holds self.now.holding.ends.held (LineHeld line) × (line.name.end ≡ end) }
         ensures none { result ≡ false → HoldsNoLine self.now.holding.ends.held end }
     {
-        self.holding.ends.find_line_to(end).is_some()
+        self.holding.ends.find_line_for_destination(end).is_some()
     }
 
     /// Lends the handler.
@@ -146,7 +146,7 @@ impl<H: Handler + Drop, C: Checkpoint + Drop> EventLoop<H, C> {
     }
 
     /// Puts another handler in, and gives out the one that was there.
-    pub fn replace_handler(&mut self, handler: H) -> H
+    pub fn replace_loop_handler(&mut self, handler: H) -> H
         ensures given { result ≡ self.old.handler }
         ensures put { self.new ≡ record self.old { handler = handler } }
     {

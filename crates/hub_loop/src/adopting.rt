@@ -47,9 +47,9 @@ impl Holding {
         let Ok(bell) = self.reserve_and_clone_bell(queue.id()) else {
             return Err(queue);
         };
-        match queue.adopt(rt, &hub.yard, bell) {
+        match queue.adopt_for_loop(rt, &hub.yard, bell) {
             Ok(queue) => {
-                self.ends.hold_reserved(Held::from(queue));
+                self.ends.hold_in_reserved_room(Held::from(queue));
                 Ok(true)
             }
             Err((AdoptError::OutOfMemory, queue)) => Err(queue),
@@ -95,7 +95,7 @@ impl Holding {
         let arrived = receiving.found.pop_front().unwrap();
         match arrived.adopt(rt, hub, bell) {
             Ok(port) => {
-                self.ends.hold_reserved(Held::Port(port));
+                self.ends.hold_in_reserved_room(Held::Port(port));
                 Ok(true)
             }
             Err((AdoptError::OutOfMemory, arrived)) => {
@@ -112,7 +112,7 @@ impl Holding {
     }
 
     /// Adopts the ports that were found, in order, and holds them.
-    pub(crate) fn adopt_all<R: Wait>(
+    pub(crate) fn adopt_all_found_ports<R: Wait>(
         &mut self,
         rt: &R,
         hub: &Hub,

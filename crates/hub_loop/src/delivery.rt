@@ -90,7 +90,7 @@ impl Undelivered {
         let Some(receiving) = &mut self.arrival else {
             unreachable!();
         };
-        match holding.adopt_all(rt, hub, receiving) {
+        match holding.adopt_all_found_ports(rt, hub, receiving) {
             Ok(()) => handler.got(rt, &self.envelope, receiving.missing.as_slice()),
             Err(error) => Err(error),
         }

@@ -100,7 +100,7 @@ impl Closed {
     }
 
     /// Closes an end, or keeps a line.
-    fn close_end_or_keep_line<R: Wait>(&mut self, rt: &R, hub: &Hub, opened: Held)
+    fn close_if_end_keep_if_line<R: Wait>(&mut self, rt: &R, hub: &Hub, opened: Held)
         requires { HasRoom self.old 1 }
         ensures graves { grave_ends self.new.graves.items
             ≡ grave_ends self.old.graves.items ++ open_ends (opened ∷ []) }
@@ -118,7 +118,12 @@ impl Closed {
     }
 
     /// Closes these, in order. There is room for what they are closed to.
-    pub(crate) fn close_ends_and_keep_lines<R: Wait>(&mut self, rt: &R, hub: &Hub, all: Vec<Held>)
+    pub(crate) fn close_all_ends_keep_all_lines<R: Wait>(
+        &mut self,
+        rt: &R,
+        hub: &Hub,
+        all: Vec<Held>,
+    )
         requires { HasRoom self.old (vec_len all) }
         ensures graves { grave_ends self.new.graves.items
             ≡ grave_ends self.old.graves.items ++ open_ends all.items }
@@ -126,7 +131,7 @@ impl Closed {
             self.new.noticed.items }
     {
         for opened in all {
-            self.close_end_or_keep_line(rt, hub, opened);
+            self.close_if_end_keep_if_line(rt, hub, opened);
         }
     }
 }
@@ -213,7 +218,7 @@ fn add_fetched_queues(queues: Vec<HandedQueue>, opened: &mut Vec<Held>)
 }
 
 /// The same of the ports that were found.
-fn add_found_ports(found: VecDeque<Arrived>, opened: &mut Vec<Held>)
+fn add_arrived_ports(found: VecDeque<Arrived>, opened: &mut Vec<Held>)
     requires { vec_len opened.old + deque_len found ≤ vec_capacity opened.old }
     ensures items { opened.new.items ≡ opened.old.items ++ map PortHeld found.items }
     ensures len { vec_len opened.new ≡ vec_len opened.old + deque_len found }
@@ -245,7 +250,7 @@ impl Holding {
         self.closed.reserve(count)?;
         add_held_ends(self.ends.take_all_held(alloc), &mut opened);
         add_fetched_queues(replace(fetched, Vec::new(alloc)), &mut opened);
-        add_found_ports(take_unadopted_ports(alloc, kept), &mut opened);
+        add_arrived_ports(take_unadopted_ports(alloc, kept), &mut opened);
         Ok(opened)
     }
 
@@ -269,7 +274,7 @@ impl Holding {
         let mut opened = self.take_all_to_close(alloc, fetched, kept)?;
         opened.sort_unstable_by_key(|open| open.id().0);
         remove_members_from_roster(rt, roster, opened.as_slice());
-        self.closed.close_ends_and_keep_lines(rt, hub, opened);
+        self.closed.close_all_ends_keep_all_lines(rt, hub, opened);
         let closed = replace(&mut self.closed, Closed::new(alloc));
         Ok(Shutdown::new(alloc, closed))
     }
@@ -298,7 +303,7 @@ impl<H: Handler + Drop, C: Checkpoint + Drop> EventLoop<H, C> {
             HasEnded self (swept_ends ended.swept.items) ended.noticed.items) }
         ensures err { IfErr result (λ failed. HasPaused self failed.1) }
     {
-        let mut closing = match self.begin_closing(rt, hub, roster) {
+        let mut closing = match self.close_all_or_resume_closing(rt, hub, roster) {
             Ok(closing) => closing,
             Err(error) => return Err((LoopError::from(error), self)),
         };
@@ -316,7 +321,7 @@ impl<H: Handler + Drop, C: Checkpoint + Drop> EventLoop<H, C> {
 
     /// Closes what the loop has, in rising order of the numbers, or takes up how far an earlier
     /// call has come. After an error nothing has changed.
-    fn begin_closing<L: Lends<Roster>, R: Wait>(
+    fn close_all_or_resume_closing<L: Lends<Roster>, R: Wait>(
         &mut self,
         rt: &R,
         hub: &Hub,

@@ -244,7 +244,7 @@ impl<H: Handler + Drop, C: Checkpoint + Drop> EventLoop<H, C> {
 
     /// Rests after a turn: where no end gave anything and none was busy the thread sleeps until
     /// somebody rings, and where one was busy it lets other threads run first.
-    pub fn rest<R: Wait>(&mut self, rt: &R, turn: Turn)
+    pub fn sleep_or_yield_after_turn<R: Wait>(&mut self, rt: &R, turn: Turn)
         ensures rests { Rests turn self.old.listener.at self.new.listener.at }
         ensures same { self.new ≡ record self.old { listener = self.new.listener } }
     {
@@ -280,7 +280,7 @@ impl<H: Handler + Drop, C: Checkpoint + Drop> EventLoop<H, C> {
         for _ in rt.forever() {
             match self.turn(rt, hub, &mut steps) {
                 Ok(Turn::Ending) => return Ok(()),
-                Ok(turn) => self.rest(rt, turn),
+                Ok(turn) => self.sleep_or_yield_after_turn(rt, turn),
                 Err(error) => return Err(error),
             }
         }
@@ -309,7 +309,7 @@ impl<H: Handler + Drop, C: Checkpoint + Drop> EventLoop<H, C> {
         ensures rest { SameButFetched self.old self.new }
     {
         self.fetched.reserve(1)?;
-        let Some(queue) = take_fetched_or_handed(rt, directory, &mut self.fetched, end, self.agent)
+        let Some(queue) = take_queue_handed_over(rt, directory, &mut self.fetched, end, self.agent)
         else {
             return Ok(false);
         };
@@ -324,7 +324,7 @@ impl<H: Handler + Drop, C: Checkpoint + Drop> EventLoop<H, C> {
 }
 
 /// Takes the queue of this number out of those that were fetched, or else out of the directory.
-fn take_fetched_or_handed<R: Wait>(
+fn take_queue_handed_over<R: Wait>(
     rt: &R,
     directory: &Directory,
     fetched: &mut Vec<HandedQueue>,

@@ -44,7 +44,7 @@ fn record_line_key(
 }
 
 /// The least key that is listed under this number.
-fn first_line_key_to_end(lines: &BTreeSet<(EndId, usize)>, end: EndId) -> Option<usize> {
+fn first_line_key_for_destination(lines: &BTreeSet<(EndId, usize)>, end: EndId) -> Option<usize> {
     let found = lines.range((end, 0)..=(end, usize::MAX)).next()?;
     Some(found.1)
 }
@@ -60,7 +60,7 @@ fn is_end_of_kind_and_number(slot: Option<&Held>, kind: Sought, end: EndId) -> b
 }
 
 /// Whether a line that posts at the end of this number is held there.
-fn is_line_to(slot: Option<&Held>, end: EndId) -> bool
+fn is_line_for_destination(slot: Option<&Held>, end: EndId) -> bool
     ensures { (result ≡ true) ↔ IsSlotOf (IsLineTo end) (option_copied slot.entry) }
 {
     match slot {
@@ -83,7 +83,7 @@ pub(crate) fn first_marked_in_range(marks: &Marks, low: usize, high: usize) -> O
 
 impl HeldEnds {
     /// Holds one more, for which there is room. An end is marked, since something may wait there.
-    pub(crate) fn hold_reserved(&mut self, held: Held)
+    pub(crate) fn hold_in_reserved_room(&mut self, held: Held)
         requires room { HasRoomFor self.old.held 1 }
         requires bit { HasBit self.old.ready.marks self.old.held.vacant_key }
         ensures held { HoldsMore self.old.held self.new.held held }
@@ -109,7 +109,7 @@ impl HeldEnds {
         if record_line_key(&mut self.lines, &held, self.held.vacant_key()).is_err() {
             return Err((LoopError::OutOfMemory, held));
         }
-        self.hold_reserved(held);
+        self.hold_in_reserved_room(held);
         Ok(())
     }
 
@@ -124,7 +124,7 @@ impl HeldEnds {
         self.held.reserve(1)?;
         let key = self.held.vacant_key();
         match end {
-            Some(end) => self.ready.reserve(end, key),
+            Some(end) => self.ready.reserve_for_end(end, key),
             None => self.ready.marks.reserve(key),
         }
     }
@@ -174,16 +174,16 @@ impl HeldEnds {
 
     /// The key of a line that posts at the end of this number. A borrower may have left another one
     /// where it is listed, so that all are looked at where it isn't found there.
-    pub(crate) fn find_line_to(&self, end: EndId) -> Option<usize>
+    pub(crate) fn find_line_for_destination(&self, end: EndId) -> Option<usize>
         ensures { IsFound (IsLineTo end) self.now.held result }
     {
-        if let Some(key) = first_line_key_to_end(&self.lines, end) {
-            if is_line_to(self.held.get(key), end) {
+        if let Some(key) = first_line_key_for_destination(&self.lines, end) {
+            if is_line_for_destination(self.held.get(key), end) {
                 return Some(key);
             }
         }
         for key in 0..self.held.capacity() {
-            if is_line_to(self.held.get(key), end) {
+            if is_line_for_destination(self.held.get(key), end) {
                 return Some(key);
             }
         }
@@ -197,7 +197,7 @@ impl HeldEnds {
         if !self.held.contains(key) {
             return None;
         }
-        self.ready.marks.set(key);
+        self.ready.marks.mark_key(key);
         self.held.get_mut(key)
     }
 
@@ -213,7 +213,7 @@ impl HeldEnds {
         match self.held.get_mut(key) {
             Some(held) => {
                 held.start();
-                self.ready.marks.set(key);
+                self.ready.marks.mark_key(key);
                 true
             }
             None => false,

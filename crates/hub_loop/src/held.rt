@@ -152,14 +152,14 @@ impl Held {
     }
 
     /// How many queues the end has before its newest one.
-    fn behind(&self) -> u32
+    fn count_queues_to_newest(&self) -> u32
         ensures { result ≡ behind_of (seat_of self.now) }
     {
         match self {
-            Held::Port(port) => port.behind(),
-            Held::Client(queue) => queue.behind(),
-            Held::Worker(queue) => queue.behind(),
-            Held::Member(member) => member.behind(),
+            Held::Port(port) => port.count_queues_to_newest(),
+            Held::Client(queue) => queue.count_queues_to_newest(),
+            Held::Worker(queue) => queue.count_queues_to_newest(),
+            Held::Member(member) => member.count_queues_to_newest(),
             Held::Line(_) => 0,
         }
     }
@@ -186,7 +186,7 @@ impl Held {
     ) -> Option<Took>
         ensures { IsHeldAsked self.old self.new steps.old steps.new result }
     {
-        for _ in 0..self.behind() {
+        for _ in 0..self.count_queues_to_newest() {
             match self.take(rt, steps)? {
                 Took::Again => {}
                 took => return Some(took),

@@ -63,7 +63,7 @@ impl HeldEnds {
     {
         match way {
             Way::Port(end) => self.find_key_of_end(Sought::Port, end),
-            Way::Line(end) => self.find_line_to(end),
+            Way::Line(end) => self.find_line_for_destination(end),
         }
     }
 
@@ -97,8 +97,8 @@ impl HeldEnds {
 
 impl<H: Handler + Drop, C: Checkpoint + Drop> EventLoop<H, C> {
     /// Posts a body with ports that are sent along: over a port as `Port::post_parcel` does, over a
-    /// line as `hub_ports::send_parcel_over_line` does. `None` where the loop doesn't hold that port or a
-    /// line to that end: then the parcel is as it was.
+    /// line as `hub_ports::send_parcel_over_line` does. `None` where the loop doesn't hold that
+    /// port or a line to that end: then the parcel is as it was.
     #[inline(always)]
     pub fn post<R: Wait>(
         &mut self,

@@ -51,7 +51,7 @@ impl Served {
 }
 
 /// Asks the end under a key, if there is one.
-fn ask_end_at_key<L: Ledger, R: Wait>(
+fn take_at_key<L: Ledger, R: Wait>(
     rt: &R,
     held: &mut Slab<Held>,
     key: usize,
@@ -104,7 +104,7 @@ const A_TIME: usize = 64;
 
 impl HeldEnds {
     /// Asks the end under a key, if there is one. Its mark stays where more may wait there.
-    fn ask_and_mark<L: Ledger, R: Wait>(
+    fn take_at_key_and_update_mark<L: Ledger, R: Wait>(
         &mut self,
         rt: &R,
         key: usize,
@@ -116,19 +116,19 @@ impl HeldEnds {
         ensures capacity { self.new.held.capacity ≡ self.old.held.capacity }
         ensures next { self.new.next ≡ self.old.next }
     {
-        let served = ask_end_at_key(rt, &mut self.held, key, steps);
+        let served = take_at_key(rt, &mut self.held, key, steps);
         match &served {
             Served::Nothing(false) if may_clear_mark(&self.held, &self.ready, key) => {
-                self.ready.marks.clear(key);
+                self.ready.marks.unmark_key(key);
             }
-            Served::Nothing(_) | Served::Given(_, _) => self.ready.marks.set(key),
+            Served::Nothing(_) | Served::Given(_, _) => self.ready.marks.mark_key(key),
         }
         served
     }
 
     /// Asks these ends of a range in order, up to the first that gives an envelope: the next asking
     /// begins behind it. `was` tells whether an end was busy before.
-    // It is inlined, and so is `take_one_asking_marked`, since each return would copy an envelope.
+    // It is inlined, as `take_one_from_marked_ends_in_turn` is: each return would copy an envelope.
     #[inline(always)]
     fn take_in_range<L: Ledger, R: Wait>(
         &mut self,
@@ -154,7 +154,7 @@ impl HeldEnds {
             from,
             high,
         ) {
-            match self.ask_and_mark(rt, key, steps) {
+            match self.take_at_key_and_update_mark(rt, key, steps) {
                 Served::Nothing(here) => busy = here | busy,
                 served => {
                     self.next = key + 1;
@@ -169,7 +169,7 @@ impl HeldEnds {
     /// Looks which ends were rung, and asks the marked ones in order, from the next key on and then
     /// from the first.
     #[inline(always)]
-    fn take_one_asking_marked<L: Ledger, R: Wait>(
+    fn take_one_from_marked_ends_in_turn<L: Ledger, R: Wait>(
         &mut self,
         rt: &R,
         listener: &mut Listener,
@@ -194,7 +194,7 @@ impl HeldEnds {
     /// Asks each end of a range in order, up to the first that gives an envelope. From time to time
     /// it serves the marked ones first.
     #[inline(never)]
-    fn take_one_asking_each<L: Ledger, R: Wait>(
+    fn take_one_from_ends_in_turn<L: Ledger, R: Wait>(
         &mut self,
         rt: &R,
         listener: &mut Listener,
@@ -217,7 +217,7 @@ impl HeldEnds {
                 Served::Nothing(now) => busy = now,
                 served => return served,
             }
-            match self.take_one_asking_marked(rt, listener, busy, steps) {
+            match self.take_one_from_marked_ends_in_turn(rt, listener, busy, steps) {
                 Served::Nothing(now) => busy = now,
                 served => return served,
             }
@@ -243,10 +243,10 @@ impl HeldEnds {
     {
         let next = self.next;
         let high = self.held.capacity();
-        match self.take_one_asking_marked(rt, listener, false, steps) {
+        match self.take_one_from_marked_ends_in_turn(rt, listener, false, steps) {
             Served::Nothing(marked) => {
-                match self.take_one_asking_each(rt, listener, next, high, marked, steps) {
-                    Served::Nothing(ahead) => self.take_one_asking_each(
+                match self.take_one_from_ends_in_turn(rt, listener, next, high, marked, steps) {
+                    Served::Nothing(ahead) => self.take_one_from_ends_in_turn(
                         rt, listener, 0, next, ahead, steps,
                     ),
                     served => served,

@@ -31,7 +31,7 @@ fn sends<R: Wait>(rt: &R, alloc: Global, hub: &Hub, event_loop: &mut Loop) -> Op
 }
 
 fn has_line(event_loop: &mut Loop) -> bool {
-    event_loop.has_line_to(EndId(1))
+    event_loop.has_line_for_destination(EndId(1))
         && match event_loop.line_mut(EndId(1)) {
             Some(line) => line.name().end.0 == 1 && line.name().line.0 == 0,
             None => false,
@@ -47,7 +47,7 @@ fn holds_again(event_loop: &mut Loop) -> bool {
 
 /// The loop holds port 1 and then the line. The directory doesn't take that back.
 fn lends<R: Wait>(rt: &R, shared: &Shared, mut event_loop: Loop, line: Poster) -> Option<bool> {
-    let had_line = event_loop.has_line_to(EndId(1));
+    let had_line = event_loop.has_line_for_destination(EndId(1));
     let is_held = holds(&mut event_loop, Held::Line(line));
     let is_sent = sends(rt, shared.alloc, &shared.hub, &mut event_loop)?;
     let is_lent = has_line(&mut event_loop)

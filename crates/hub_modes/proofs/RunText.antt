@@ -8,14 +8,14 @@ use Rattle.hub_script.specs.declared.error.ScriptError.TheVariants as script
 use Rattle.hub_trace.specs.Accepted.{AgentLog}
 use Rattle.hub_trace.specs.Deliveries.{AreDeliveries}
 use Rattle.hub_trace.specs.Text.{file_text}
-use Rattle.hub_trace.specs.declared.delivered.DeliveredLine.{DeliveredLine}
+use Rattle.hub_trace.specs.declared.delivered.SenderLineDeliveries.{SenderLineDeliveries}
 use Rattle.hub_engine.specs.declared.status.ExitStatus.{ExitStatus}
 use Rattle.hub_engine.specs.declared.status.ExitStatus.TheVariants as status
 use Rattle.hub_check.specs.CheckOutput.{IsVerdictLine, is_reached}
 use Rattle.hub_modes.specs.RunOutput.{IsRunText, IsScriptOutput, SaysRun, delivered_text}
 
 -- the logs, their deliveries and a verdict that was reached are what a run prints
-pub whole : (logs : List AgentLog) (s : ExitStatus) (lines : List DeliveredLine) (verdict text : List ℕ) → AreDeliveries logs lines → IsVerdictLine logs s verdict → is_reached s ≡ true
+pub whole : (logs : List AgentLog) (s : ExitStatus) (lines : List SenderLineDeliveries) (verdict text : List ℕ) → AreDeliveries logs lines → IsVerdictLine logs s verdict → is_reached s ≡ true
     → text ≡ file_text logs ++ codes "deliveries\n" ++ delivered_text lines ++ verdict → IsRunText logs s text
 whole logs status.Success lines verdict text told said reached is = (lines, verdict, told, said, is)
 whole logs status.Fault lines verdict text told said reached is = (lines, verdict, told, said, is)

@@ -9,7 +9,7 @@ use Rattle.hub_script.specs.declared.error.ScriptError.{ScriptError}
 use Rattle.hub_trace.specs.Accepted.{AgentLog}
 use Rattle.hub_trace.specs.Deliveries.{AreDeliveries, delivered_line_text}
 use Rattle.hub_trace.specs.Text.{file_text}
-use Rattle.hub_trace.specs.declared.delivered.DeliveredLine.{DeliveredLine}
+use Rattle.hub_trace.specs.declared.delivered.SenderLineDeliveries.{SenderLineDeliveries}
 use Rattle.hub_engine.specs.declared.status.ExitStatus.{ExitStatus}
 use Rattle.hub_engine.specs.declared.status.ExitStatus.TheVariants as status
 use Rattle.hub_check.specs.CheckOutput.{IsVerdictLine}
@@ -17,13 +17,13 @@ use Rattle.hub_engine.specs.Engine.{IsBadLine}
 use Rattle.hub_engine.specs.OutOfMemory.{out_of_memory}
 
 -- a text line for each line of which something was delivered
-abbrev pub delivered_text : List DeliveredLine → List ℕ
+abbrev pub delivered_text : List SenderLineDeliveries → List ℕ
 delivered_text lines = flat_map (λ d. delivered_line_text d ++ codes "\n") lines
 
 -- the logs, the deliveries that they tell of, and the verdict on them
 abbrev pub IsWholeRun : List AgentLog → ExitStatus → List ℕ → Type 0
 IsWholeRun logs s text =
-    (lines : List DeliveredLine) × (verdict : List ℕ) × AreDeliveries logs lines × IsVerdictLine logs s verdict
+    (lines : List SenderLineDeliveries) × (verdict : List ℕ) × AreDeliveries logs lines × IsVerdictLine logs s verdict
     × (text ≡ file_text logs ++ codes "deliveries\n" ++ delivered_text lines ++ verdict)
 
 -- that, or for want of memory `out of memory` alone

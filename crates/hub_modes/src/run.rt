@@ -18,7 +18,9 @@ use hub_engine::{
 };
 use hub_run::{Checkpoint, run_agents};
 use hub_script::Script;
-use hub_trace::{DeliveredLine, LOG_HEADER, LOGS_END, Log, OutOfMemory, delivered_lines};
+use hub_trace::{
+    LOG_HEADER, LOGS_END, Log, OutOfMemory, SenderLineDeliveries, deliveries_by_sender_line,
+};
 use std::alloc::Global;
 use std::fmt::Write as _;
 use std::io::{Read, Write};
@@ -79,30 +81,33 @@ pub fn run_script<C: Checkpoint + Sync, W: Write, T: Threads + Wait + Sync>(
     ensures { EndsOutput W.contents (SaysRun script.now) writer.old writer.new result }
 {
     match run_agents(alloc, rt, script, checkpoint) {
-        Ok(run) => write_run(alloc, &run.logs, writer),
+        Ok(run) => write_logs_and_verdict(alloc, &run.logs, writer),
         Err(_) => write_out_of_memory(writer),
     }
 }
 
 /// Writes what a run with these logs prints.
-fn write_run<W: Write>(
+fn write_logs_and_verdict<W: Write>(
     alloc: Global,
     logs: &[Log],
     writer: &mut CountedWriter<W>,
 ) -> Result<ExitStatus, Device>
     ensures { EndsOutput W.contents (IsRunText logs.now) writer.old writer.new result }
 {
-    match text_of_run(alloc, logs) {
+    match text_of_logs_and_verdict(alloc, logs) {
         Ok((text, status)) => write_and_flush(writer, text.as_bytes(), status),
         Err(_) => write_out_of_memory(writer),
     }
 }
 
 /// What a run with these logs prints, and how the program ends after it.
-fn text_of_run(alloc: Global, logs: &[Log]) -> Result<(String, ExitStatus), OutOfMemory>
+fn text_of_logs_and_verdict(
+    alloc: Global,
+    logs: &[Log],
+) -> Result<(String, ExitStatus), OutOfMemory>
     ensures { IfOk result (λ run. IsRunText logs.now run.1 (string_bytes run.0)) }
 {
-    let lines = delivered_lines(alloc, logs)?;
+    let lines = deliveries_by_sender_line(alloc, logs)?;
     let (verdict, status) = check_and_format_verdict(alloc, logs)?;
     let mut text = String::new(alloc);
     writeln!(text, "{LOG_HEADER}")?;
@@ -123,7 +128,7 @@ fn append_logs_as_text(text: &mut String, logs: &[Log]) -> Result<(), OutOfMemor
     Ok(())
 }
 
-fn write_deliveries(text: &mut String, lines: &[DeliveredLine]) -> Result<(), OutOfMemory>
+fn write_deliveries(text: &mut String, lines: &[SenderLineDeliveries]) -> Result<(), OutOfMemory>
     ensures { OnOk result (string_bytes text.new
         ≡ string_bytes text.old ++ delivered_text lines.now) }
 {

@@ -113,7 +113,7 @@ impl Player {
         let Some(event_loop) = loop_of(&mut self.agents, agent) else {
             return Err(Stop::Unexpected);
         };
-        event_loop.rest(rt, Turn::Idle { busy: false });
+        event_loop.sleep_or_yield_after_turn(rt, Turn::Idle { busy: false });
         told.tell_word("rested\n")
     }
 
@@ -172,7 +172,7 @@ impl Player {
             Some(poster) => Some(poster.name().line.0),
             None => None,
         };
-        if line.is_some() != event_loop.has_line_to(end) {
+        if line.is_some() != event_loop.has_line_for_destination(end) {
             return Err(Stop::Unexpected);
         }
         match (held, line) {

@@ -9,7 +9,7 @@ use hub_engine::{
 };
 use hub_steps::read_step_line::read_step_line;
 use hub_steps::{Shown, StepLineError};
-use hub_text::split_text_line;
+use hub_text::split_off_first_text_line;
 use std::alloc::Global;
 use std::io::{Read, Write};
 use std::sync::Wait;
@@ -83,7 +83,7 @@ fn play_lines<H: Wait>(
         if rest.is_empty() {
             break;
         }
-        let (bytes, after) = split_text_line(rest);
+        let (bytes, after) = split_off_first_text_line(rest);
         if let Err(stop) = play_line(rt, alloc, player, bytes, told) {
             return Err((before + 1, stop));
         }

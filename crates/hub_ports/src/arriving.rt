@@ -65,7 +65,7 @@ impl Arrived {
     ) -> Result<Port, (AdoptError, Arrived)>
         ensures { IsReceived self result }
     {
-        let (taker, poster) = self.into_port().into_parts();
+        let (taker, poster) = self.into_port().into_taker_and_poster();
         match taker.adopt(rt, &hub.yard, bell) {
             Ok(taker) => Ok(Port { taker, poster }),
             Err((error, taker)) => {

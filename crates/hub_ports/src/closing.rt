@@ -200,7 +200,7 @@ fn post_notice_and_tell_hearer<H: Hears<ClosingStep>, R: Wait>(
         ≡ option_map (λ list. list ++ ClosingStep.Notice result ∷ []) (H.told heard.old) }
 {
     let noticed = post_notice(rt, alloc, yard, poster);
-    heard.tell(rt, ClosingStep::Notice(noticed));
+    heard.tell_done(rt, ClosingStep::Notice(noticed));
     noticed
 }
 
@@ -216,7 +216,7 @@ fn close_taker_and_tell_hearer<H: Hears<ClosingStep>, R: Wait>(
 {
     let end = taker.id();
     let grave = taker.close();
-    heard.tell(rt, ClosingStep::Close(end));
+    heard.tell_done(rt, ClosingStep::Close(end));
     grave
 }
 
@@ -234,7 +234,7 @@ pub fn close_port_telling_each_step<H: Hears<ClosingStep>, R: Wait>(
     ensures order { H.told heard.new ≡ option_map (λ list. list
         ++ ClosingStep.Notice result.2 ∷ ClosingStep.Close (end_of port) ∷ []) (H.told heard.old) }
 {
-    let (taker, mut poster) = port.into_parts();
+    let (taker, mut poster) = port.into_taker_and_poster();
     let noticed = post_notice_and_tell_hearer(rt, alloc, yard, &mut poster, heard);
     let grave = close_taker_and_tell_hearer(rt, taker, heard);
     (grave, Spent { poster }, noticed)
@@ -254,7 +254,7 @@ pub(crate) fn put_notice_and_close_port<R: Wait>(
 }
 
 /// Closes the ports of a list in order, and keeps of each what shows it.
-pub(crate) fn close_all<R: Wait>(
+pub(crate) fn close_listed_ports<R: Wait>(
     rt: &R,
     alloc: Global,
     yard: &Depot<Onward>,

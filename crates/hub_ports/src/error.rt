@@ -84,7 +84,7 @@ impl SendRefusal {
     }
 
     /// The error of a post whose caller has lent nothing.
-    pub(crate) fn into_error(self, parcel: Parcel, closings: Closings) -> PortError
+    pub(crate) fn into_error_with_parcel(self, parcel: Parcel, closings: Closings) -> PortError
         requires { IsSome parcel.body }
         ensures { result ≡ error_with self parcel closings }
     {

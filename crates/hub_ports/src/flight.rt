@@ -98,7 +98,7 @@ pub(crate) fn take_ports_back_from_flight<L: Lends<Kept<Port>>, R: Wait>(
 /// they are in flight. It tells of each end what is left of it.
 ///
 /// Where memory runs out, the end that was closed last comes back.
-pub fn close_and_sweep_flight_ports<H: Hears<(Swept, Option<(Spent, Noticed)>)>, R: Wait>(
+pub fn close_and_sweep_all_flight_ports<H: Hears<(Swept, Option<(Spent, Noticed)>)>, R: Wait>(
     rt: &R,
     alloc: Global,
     yard: &Depot<Onward>,
@@ -111,12 +111,12 @@ pub fn close_and_sweep_flight_ports<H: Hears<(Swept, Option<(Spent, Noticed)>)>,
         AreToldEmptied grave flight.old map.empty before (H.told heard.new))) }
 {
     match grave {
-        Some(grave) => heard.tell(rt, (grave.sweep_until_empty(rt)?, None)),
+        Some(grave) => heard.tell_done(rt, (grave.sweep_until_empty(rt)?, None)),
         None => {}
     }
     while let Some(port) = flight.take_any() {
         let (grave, spent, noticed) = put_notice_and_close_port(rt, alloc, yard, port);
-        heard.tell(rt, (grave.sweep_until_empty(rt)?, Some((spent, noticed))));
+        heard.tell_done(rt, (grave.sweep_until_empty(rt)?, Some((spent, noticed))));
     }
     Ok(())
 }

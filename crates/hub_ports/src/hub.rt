@@ -7,7 +7,7 @@ ghost use Rattle.hub_ports.specs.Channels.{IsChannel};
 
 use crate::arriving::{Arrival, take_ports_from_flight};
 use crate::error::ChannelError;
-use crate::flight::close_and_sweep_flight_ports;
+use crate::flight::close_and_sweep_all_flight_ports;
 use crate::port::Port;
 use hub_depot::Depot;
 use hub_envelope::{EndId, Envelope, OutOfMemory};
@@ -80,7 +80,14 @@ impl Hub {
         } = self;
         let mut kept = flight.into_kept();
         let grave = grave.into_inner();
-        let ended = close_and_sweep_flight_ports(rt, alloc, &yard, grave, &mut kept, &mut Unheard);
+        let ended = close_and_sweep_all_flight_ports(
+            rt,
+            alloc,
+            &yard,
+            grave,
+            &mut kept,
+            &mut Unheard,
+        );
         let Err(grave) = ended else {
             return Ok(());
         };

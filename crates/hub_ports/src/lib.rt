@@ -23,7 +23,7 @@ pub use closing::{
     ClosedPort, ClosingStep, Closings, Noticed, Spent, close_port_telling_each_step,
 };
 pub use error::{ChannelError, PortError, SendRefusal};
-pub use flight::close_and_sweep_flight_ports;
+pub use flight::close_and_sweep_all_flight_ports;
 pub use hub::{Hub, channel};
 pub use parcel::Parcel;
 pub use port::Port;

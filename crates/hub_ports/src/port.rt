@@ -65,7 +65,7 @@ impl Port {
     ghost use Rattle.hub_ports.specs.Sending.{IsSent, IsDoomed, IsTooMany};
 
     /// What it takes from and what it posts over, which are all that it has.
-    pub(crate) fn into_parts(self) -> (Taker, Poster)
+    pub(crate) fn into_taker_and_poster(self) -> (Taker, Poster)
         ensures taker { result.0 ≡ self.taker }
         ensures poster { result.1 ≡ self.poster }
     {
@@ -88,7 +88,7 @@ impl Port {
     }
 
     /// How many queues there are from the taker's to the newest, that one not counted.
-    pub fn behind(&self) -> u32
+    pub fn count_queues_to_newest(&self) -> u32
         ensures { result ≡ length self.now.taker.retired }
     {
         self.taker.behind()

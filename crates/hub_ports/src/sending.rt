@@ -9,7 +9,7 @@ ghost use Rattle.hub_ports.specs.Seats.{ends_of, is_numbered};
 ghost use Rattle.hub_ports.specs.Sending.{IsSent, IsDoomed, IsTooMany};
 ghost use Rattle.hub_ports.specs.declared.closing.ClosedPort.{ClosedPort};
 
-use crate::closing::{Closings, close_all};
+use crate::closing::{Closings, close_listed_ports};
 use crate::error::{PortError, SendRefusal};
 use crate::flight::{put_ports_in_flight, take_ports_back_from_flight};
 use crate::hub::Hub;
@@ -24,7 +24,7 @@ use std::mem::replace;
 use std::sync::Wait;
 
 /// Whether a port of the list has this number.
-fn holds(ports: &[Port], end: EndId) -> bool
+fn contains_port_of_id(ports: &[Port], end: EndId) -> bool
     ensures { result ≡ list_any (is_numbered end) ports.now }
 {
     ports.iter().any(|port| port.id() == end)
@@ -142,8 +142,8 @@ fn put_in_flight_and_post<L: Lends<Kept<Port>>, R: Wait>(
 
 /// Posts a parcel with ports, over a flight that anybody lends: of the hub it uses the yard and the
 /// allocator alone. The refusals are those of `send_parcel_over_line`.
-// It is no part of `send_parcel_over_line`, so that a post without ports doesn't pay for the room that a list
-// takes on the stack.
+// It is no part of `send_parcel_over_line`, so that a post without ports doesn't pay for the room
+// that a list takes on the stack.
 #[inline(never)]
 pub fn send_with_ports<L: Lends<Kept<Port>>, R: Wait>(
     rt: &R,
@@ -170,9 +170,9 @@ pub fn send_with_ports<L: Lends<Kept<Port>>, R: Wait>(
     if parcel.ports.len() > MAX_PORTS {
         return Err(SendRefusal::TooManyPorts);
     }
-    if holds(parcel.ports.as_slice(), line.name().end) {
+    if contains_port_of_id(parcel.ports.as_slice(), line.name().end) {
         let ports = replace(&mut parcel.ports, Vec::new(hub.alloc));
-        *closings = close_all(rt, hub.alloc, &hub.yard, ports);
+        *closings = close_listed_ports(rt, hub.alloc, &hub.yard, ports);
         return Err(SendRefusal::Doomed);
     }
     put_in_flight_and_post(rt, hub, flight, line, agent, parcel)
@@ -225,7 +225,7 @@ fn send_with_own_closings<R: Wait>(
     let mut closings = Closings::none();
     match send_parcel_over_line(line, rt, hub, agent, &mut parcel, &mut closings) {
         Ok(posted) => Ok(posted),
-        Err(refusal) => Err(refusal.into_error(parcel, closings)),
+        Err(refusal) => Err(refusal.into_error_with_parcel(parcel, closings)),
     }
 }
 
@@ -239,7 +239,7 @@ fn error_of_refused_portless_parcel(
     requires { IsSome parcel.body }
     ensures { result ≡ Err (error_with refusal parcel []) }
 {
-    Err(refusal.into_error(parcel, Closings::none()))
+    Err(refusal.into_error_with_parcel(parcel, Closings::none()))
 }
 
 /// Posts a body over a line, with ports that are sent along: `Port::post`, over a line of a queue

@@ -26,7 +26,7 @@ pub extern "C" fn varukoni_fan_open(alloc: Global, handle: &mut Handle) -> u8
     if handle.is_open {
         return WRONG_STATE;
     }
-    let Ok(fan) = Fan::open(alloc) else {
+    let Ok(fan) = Fan::open_empty(alloc) else {
         return NO_MEMORY;
     };
     let Ok(resource) = Box::new(alloc, Resource::Fan(fan)) else {
@@ -172,7 +172,7 @@ pub extern "C" fn varukoni_fan_drain(
         return WRONG_STATE;
     }
     let mut resource = handle.take(alloc);
-    let status = resource.take_fan_leftover(message, line);
+    let status = resource.take_leftover_message_of_fan(message, line);
     *handle = Handle::new_open(resource);
     status
 }

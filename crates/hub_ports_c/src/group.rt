@@ -51,7 +51,7 @@ pub extern "C" fn varukoni_group_join(
     }
     let mut resource = handle.take(alloc);
     let mut joining = poster.take(alloc);
-    let status = resource.join(&mut joining, member);
+    let status = resource.add_group_member(&mut joining, member);
     *handle = Handle::new_open(resource);
     if status != DONE {
         *poster = Handle::new_open(joining);

@@ -19,7 +19,7 @@ impl Drop for Handle {
     fn drop(self) {
         let Self { slot, is_open } = self;
         if is_open {
-            drop(slot.into_parts().into_box());
+            drop(slot.into_raw_box().into_box());
         }
     }
 }
@@ -40,7 +40,7 @@ impl Handle {
         ensures { result.slot.held ≡ Some resource.value }
     {
         Handle {
-            slot: Slot::of(RawBox::from_box(resource)),
+            slot: Slot::from_raw_box(RawBox::from_box(resource)),
             is_open: true,
         }
     }
@@ -59,6 +59,6 @@ impl Handle {
         ensures { Some result.value ≡ self.slot.held }
     {
         let Self { slot, is_open: _ } = self;
-        slot.into_parts().into_box()
+        slot.into_raw_box().into_box()
     }
 }

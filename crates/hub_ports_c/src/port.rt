@@ -195,7 +195,7 @@ pub extern "C" fn varukoni_port_drain(
         return WRONG_STATE;
     }
     let mut resource = handle.take(alloc);
-    let status = resource.take_leftover(message);
+    let status = resource.take_leftover_message(message);
     *handle = Handle::new_open(resource);
     status
 }

@@ -29,7 +29,7 @@ pub extern "C" fn varukoni_poster_post(
         return WRONG_STATE;
     }
     let mut resource = handle.take(alloc);
-    let status = resource.post_to_fan(message, wake);
+    let status = resource.post_over_line_of_fan(message, wake);
     *handle = Handle::new_open(resource);
     status
 }

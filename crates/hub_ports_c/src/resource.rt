@@ -181,7 +181,7 @@ impl Resource {
     }
 
     /// Hands back a message that was posted at a closed port.
-    pub(crate) fn take_leftover(&mut self, message: &mut Message) -> u8
+    pub(crate) fn take_leftover_message(&mut self, message: &mut Message) -> u8
         ensures handed { result ≡ 0 → AtGrave (HandsBack message.new) self.old self.new }
         ensures empty { result ≡ 1 → AtGrave HandsBackNone self.old self.new }
         ensures ended { result ≡ 2 → AtGrave HandsBackLast self.old self.new }

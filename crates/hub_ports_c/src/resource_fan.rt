@@ -43,7 +43,7 @@ impl Resource {
 
     /// Posts a message over a line of a fan.
     #[inline(always)]
-    pub(crate) fn post_to_fan(&mut self, message: &Message, wake: &mut u64) -> u8
+    pub(crate) fn post_over_line_of_fan(&mut self, message: &Message, wake: &mut u64) -> u8
         ensures posted { result ≡ 0 → AtPoster (PostsToFan message.now) self.old self.new }
         ensures no_memory { result ≡ 3 → AtPoster PostsNone self.old self.new }
         ensures closed { result ≡ 6 → AtPoster RefusesOver self.old self.new }
@@ -165,7 +165,11 @@ impl Resource {
     }
 
     /// Hands back a message that was posted at a closed fan.
-    pub(crate) fn take_fan_leftover(&mut self, message: &mut Message, line: &mut u32) -> u8
+    pub(crate) fn take_leftover_message_of_fan(
+        &mut self,
+        message: &mut Message,
+        line: &mut u32,
+    ) -> u8
         ensures handed { result ≡ 0 →
             AtFanGrave (DrainsOf (drained.Message line.new message.new)) self.old self.new }
         ensures empty { result ≡ 1 → AtFanGrave (DrainsOf drained.Empty) self.old self.new }

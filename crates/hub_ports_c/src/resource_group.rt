@@ -14,7 +14,7 @@ impl Resource {
     ghost use Rattle.hub_ports_c.specs.GroupResources.{SameGroup, is_group};
 
     /// Makes who takes from a poster's line the last member of a group, which has the poster then.
-    pub(crate) fn join(&mut self, poster: &mut Resource, member: &mut u64) -> u8
+    pub(crate) fn add_group_member(&mut self, poster: &mut Resource, member: &mut u64) -> u8
         ensures joined { result ≡ 0 → AtGroup (JoinsGroup member.new poster.old) self.old self.new }
         ensures no_memory { result ≡ 3 → AtGroup SameGroup self.old self.new }
         ensures other { result ≡ 5 → (self.new ≡ self.old)

@@ -67,7 +67,7 @@ impl Slot {
     }
 
     /// It has the resource.
-    pub fn of(parts: RawBox<Resource, Global>) -> Slot
+    pub fn from_raw_box(parts: RawBox<Resource, Global>) -> Slot
         ensures { result.held ≡ Some parts.value }
     {
         let RawBox { ptr, alloc } = parts;
@@ -78,7 +78,7 @@ impl Slot {
     }
 
     /// The resource thing that it has.
-    pub fn into_parts(self) -> RawBox<Resource, Global>
+    pub fn into_raw_box(self) -> RawBox<Resource, Global>
         requires { IsSome self.held }
         ensures { Some result.value ≡ self.held }
     {

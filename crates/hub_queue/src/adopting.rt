@@ -10,7 +10,7 @@ ghost use Rattle.hub_queue.specs.Opening.{IsOpenTakerQueue};
 use crate::error::AdoptError;
 use crate::left::LeftGates;
 use crate::line_right::LineRight;
-use crate::mailbox::make_taker_queue_with_entries;
+use crate::mailbox::make_taker_queue_and_entries;
 use crate::onward::Onward;
 use crate::stand::Stand;
 use crate::taker_queue::TakerQueue;
@@ -62,7 +62,7 @@ pub(crate) fn make_onward_for_each_entry(
 
 /// A new queue of the end, whose onward posters lie in the yard. After an error nothing is left of
 /// it, and the yard keeps what it kept.
-pub(crate) fn open_queue_and_lay_onwards<L: Lends<Kept<Onward>>, R: Wait>(
+pub(crate) fn open_queue_and_put_onwards_in_yard<L: Lends<Kept<Onward>>, R: Wait>(
     rt: &R,
     yard: &mut L,
     alloc: Global,
@@ -84,7 +84,7 @@ pub(crate) fn open_queue_and_lay_onwards<L: Lends<Kept<Onward>>, R: Wait>(
         → IfSome (L.shown yard.old) (KeepsName end epoch lines) }
     ensures kept { OnErr result (L.shown yard.new ≡ L.shown yard.old) }
 {
-    let Ok((queue, entries)) = make_taker_queue_with_entries(alloc, end, epoch, lines) else {
+    let Ok((queue, entries)) = make_taker_queue_and_entries(alloc, end, epoch, lines) else {
         return Err(AdoptError::OutOfMemory);
     };
     let Ok(onwards) = make_onward_for_each_entry(alloc, &queue, entries, end, epoch, bell) else {

@@ -5,7 +5,7 @@ ghost use Rattle.hub_queue.specs.TakerQueues.{IsShut};
 ghost use Rattle.hub_queue.specs.Sweeping.{AreSwept};
 
 use crate::left::ShutQueue;
-use crate::settling::{Stop, empty_queue};
+use crate::settling::{Stop, empty_queue_into_list};
 use crate::swept::Swept;
 use crate::taker_queue::TakerQueue;
 use hub_envelope::{EndId, Envelope};
@@ -69,7 +69,7 @@ pub enum Sweep {
 }
 
 /// Empties each of the queues, the oldest first, and stops at the first that can't be emptied.
-fn empty_all_queues<R: Wait>(
+fn empty_all_queues_into_list<R: Wait>(
     rt: &R,
     retired: &mut VecDeque<TakerQueue>,
     newest: &mut TakerQueue,
@@ -84,9 +84,9 @@ fn empty_all_queues<R: Wait>(
         let Some(queue) = retired.get_mut(index) else {
             unreachable!();
         };
-        empty_queue(rt, queue, envelopes)?;
+        empty_queue_into_list(rt, queue, envelopes)?;
     }
-    empty_queue(rt, newest, envelopes)
+    empty_queue_into_list(rt, newest, envelopes)
 }
 
 impl Grave {
@@ -132,7 +132,7 @@ impl Grave {
             mut newest,
             mut envelopes,
         } = self;
-        let stop = empty_all_queues(rt, &mut retired, &mut newest, &mut envelopes);
+        let stop = empty_all_queues_into_list(rt, &mut retired, &mut newest, &mut envelopes);
         match stop {
             Ok(()) => Sweep::Discarded(Swept {
                 end,

@@ -120,7 +120,7 @@ impl Poster {
         ensures { result ≡ Some (unrung self) }
     {
         let Poster { stand } = self;
-        let (entry, left) = stand.into_parts();
+        let (entry, left) = stand.into_entry_and_left_gates();
         LeftLine {
             entry: entry.into_witness(),
             left,

@@ -77,7 +77,10 @@ impl Ends {
 pub struct Mailbox;
 
 /// The posters of all lines, which nobody has used.
-fn posters_from_onwards(alloc: Global, onwards: Vec<Onward>) -> Result<Vec<Poster>, OutOfMemory>
+fn turn_onwards_into_posters(
+    alloc: Global,
+    onwards: Vec<Onward>,
+) -> Result<Vec<Poster>, OutOfMemory>
     ensures { IfOk result (λ posters. posters.items ≡ onwards.items) }
 {
     let mut posters = Vec::with_capacity(alloc, onwards.len())?;
@@ -101,9 +104,9 @@ impl Mailbox {
         requires { (0 < lines) × (lines ≤ MAX_LINES) }
         ensures { IfOk result (λ m. IsOpenMailbox end lines m.0 m.1.items) }
     {
-        let (newest, entries) = make_taker_queue_with_entries(alloc, end, 0, lines)?;
+        let (newest, entries) = make_taker_queue_and_entries(alloc, end, 0, lines)?;
         let onwards = make_onward_for_each_entry(alloc, &newest, entries, end, 0, &bell)?;
-        let posters = posters_from_onwards(alloc, onwards)?;
+        let posters = turn_onwards_into_posters(alloc, onwards)?;
         let taker = Taker {
             alloc,
             end,
@@ -166,7 +169,7 @@ fn make_posting_right_per_line(
 
 /// A new queue with its gate: nothing was put, nobody is inside and no flag is set. The entries are
 /// those of its lines, in order.
-pub(crate) fn make_taker_queue_with_entries(
+pub(crate) fn make_taker_queue_and_entries(
     alloc: Global,
     end: EndId,
     epoch: u32,

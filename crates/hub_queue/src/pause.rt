@@ -37,14 +37,14 @@ impl Pause for NoPause {
 /// A pause, which hears of the points to which a post comes. It shows nothing, since a pause is
 /// shared.
 #[derive(Drop)]
-pub(crate) struct Paused<'p, P>(pub(crate) &'p P);
+pub(crate) struct PauseHearer<'p, P>(pub(crate) &'p P);
 
-impl<P: Pause> Hears<Point> for Paused<'_, P> {
+impl<P: Pause> Hears<Point> for PauseHearer<'_, P> {
     ghost use Rattle.std.specs.Prelude.{None};
 
     ghost told = { λ _. None };
 
-    fn tell<R: Wait>(&mut self, rt: &R, done: Point) {
+    fn tell_done<R: Wait>(&mut self, rt: &R, done: Point) {
         self.0.at(rt, done);
     }
 }

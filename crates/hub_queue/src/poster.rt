@@ -8,7 +8,7 @@ ghost use Rattle.hub_queue.specs.Yards.{IsHoppedOver};
 use crate::error::PostError;
 use crate::line_right::Head;
 use crate::onward::Onward;
-use crate::pause::{NoPause, Pause, Paused, Point};
+use crate::pause::{NoPause, Pause, PauseHearer, Point};
 use crate::stand::{Stand, Tried};
 use hub_depot::{Depot, Kept, Key};
 use hub_envelope::{Body, Draft, Ports, Posted};
@@ -69,7 +69,7 @@ impl Poster {
         ensures posted { IsPosted self.old self.new draft result }
         ensures rung { HasRung self.old self.new result }
     {
-        let (mut lender, mut heard) = (yard.as_lock(), Paused(pause));
+        let (mut lender, mut heard) = (yard.as_lock(), PauseHearer(pause));
         let Draft {
             body,
             ports,
@@ -110,7 +110,7 @@ impl Poster {
         ensures rung { HasRung self.old self.new
             (answer_back result (lent_draft head body.old ports.old)) }
     {
-        let (mut lender, mut heard) = (yard.as_lock(), Paused(&NoPause));
+        let (mut lender, mut heard) = (yard.as_lock(), PauseHearer(&NoPause));
         self.post_with_lent_yard(rt, &mut lender, head, body, ports, &mut heard)
     }
 

@@ -87,7 +87,7 @@ pub(crate) enum Stop {
 
 /// Empties one queue whose gate is retired or closed: it takes in the passes of all lines, and then
 /// what the queue holds, which nobody can add to any more.
-pub(crate) fn empty_queue<R: Wait>(
+pub(crate) fn empty_queue_into_list<R: Wait>(
     rt: &R,
     queue: &mut TakerQueue,
     envelopes: &mut Vec<Envelope>,

@@ -78,7 +78,7 @@ impl Model for Stand {
 
 impl Stand {
     /// The entry, and what shows the gates that the line has left.
-    pub(crate) fn into_parts(self) -> (Entry<LineRight>, LeftGates)
+    pub(crate) fn into_entry_and_left_gates(self) -> (Entry<LineRight>, LeftGates)
         ensures entry { result.0 ≡ self.entry }
         ensures left { result.1 ≡ self.left }
     {
@@ -95,7 +95,7 @@ impl Stand {
     pub(crate) fn move_to_next_queue(&mut self, next: Stand)
         ensures { self.new ≡ gone_to self.old next }
     {
-        let (entry, left) = replace(self, next).into_parts();
+        let (entry, left) = replace(self, next).into_entry_and_left_gates();
         self.left = left.add_left_gate(entry);
     }
 }
@@ -112,7 +112,7 @@ pub(crate) enum Tried {
 /// Puts the draft, leaves, and puts the entry back in its place. Whoever has left an enabled gate
 /// rings the bell.
 #[inline(always)]
-fn put_leave_ring_if_enabled<H: Hears<Point>, R: Wait>(
+fn put_draft_leave_and_ring_if_enabled<H: Hears<Point>, R: Wait>(
     rt: &R,
     mut inside: Inside<LineRight>,
     name: Key,
@@ -133,9 +133,9 @@ fn put_leave_ring_if_enabled<H: Hears<Point>, R: Wait>(
     ensures rung { IsRungWhere bell.old.at bell.new.at name.end (entry_in kept.new).at.left }
     ensures told { H.told heard.new ≡ told_more (H.told heard.old) points_inside }
 {
-    heard.tell(rt, Point::Inside);
+    heard.tell_done(rt, Point::Inside);
     let put = inside.right_mut().put(rt, name, head, body, ports);
-    heard.tell(rt, Point::Pushed);
+    heard.tell_done(rt, Point::Pushed);
     let (entry, enabled) = inside.leave();
     *kept = Some(entry);
     if enabled {
@@ -163,12 +163,12 @@ impl Stand {
         ensures rung { RingsTried self.old self.new result }
         ensures told { H.told heard.new ≡ told_more (H.told heard.old) (points_tried result) }
     {
-        heard.tell(rt, Point::Before);
+        heard.tell_done(rt, Point::Before);
         let (name, bell) = (self.name, &mut self.bell);
         match self.entry.take().unwrap().enter() {
             Entered::In(inside) => {
                 let kept = &mut self.entry;
-                Tried::Answered(put_leave_ring_if_enabled(
+                Tried::Answered(put_draft_leave_and_ring_if_enabled(
                     rt, inside, name, kept, bell, head, body, ports, heard,
                 ))
             }
@@ -212,7 +212,7 @@ impl Stand {
             if found == Refusal::Closed {
                 return Err(PostError::Closed);
             }
-            heard.tell(rt, Point::Hopping);
+            heard.tell_done(rt, Point::Hopping);
             let Some(next) = take_next_stand_from_yard(rt, yard, self.name) else {
                 return Err(PostError::Moving);
             };

@@ -6,7 +6,7 @@ ghost use Rattle.hub_queue.specs.Ending.{IsClosed};
 ghost use Rattle.hub_queue.specs.TakerQueues.{IsShut};
 ghost use Rattle.hub_queue.specs.Taking.{IsTaken, IsTakenOldest, started};
 
-use crate::adopting::open_queue_and_lay_onwards;
+use crate::adopting::open_queue_and_put_onwards_in_yard;
 use crate::error::AdoptError;
 use crate::grave::Grave;
 use crate::left::LeftQueue;
@@ -100,7 +100,7 @@ impl Model for Taker {
 
 /// Takes from the oldest of these queues, which are retired, and frees it once it was left. `None`
 /// where there is none.
-fn take_at_oldest_retired<L: Ledger, R: Wait>(
+fn take_from_oldest_queue<L: Ledger, R: Wait>(
     rt: &R,
     retired: &mut VecDeque<TakerQueue>,
     left: &mut Option<LeftQueue>,
@@ -111,7 +111,7 @@ fn take_at_oldest_retired<L: Ledger, R: Wait>(
         steps.old steps.new result }
 {
     let queue = retired.front_mut()?;
-    match queue.take_as_retired_queue(rt, steps) {
+    match queue.take_envelope_as_retired_queue(rt, steps) {
         Took::Again => {
             let queue = retired.pop_front().unwrap();
             *left = Some(queue.into_left_queue());
@@ -127,7 +127,7 @@ impl Taker {
     pub fn start(&mut self)
         ensures { self.new ≡ started self.old }
     {
-        self.newest.enable();
+        self.newest.enable_gate();
     }
 
     /// Takes the first envelope of the taker's queue. It never takes from a newer queue before it
@@ -141,11 +141,11 @@ impl Taker {
     pub fn take<L: Ledger, R: Wait>(&mut self, rt: &R, steps: &mut Steps<L>) -> Took
         ensures { IsTaken self.old self.new steps.old steps.new result }
     {
-        if !self.newest.is_enabled() {
+        if !self.newest.is_gate_enabled() {
             return Took::Disabled;
         }
-        let Some(took) = take_at_oldest_retired(rt, &mut self.retired, &mut self.left, steps) else {
-            return self.newest.take_as_newest_queue(rt, steps);
+        let Some(took) = take_from_oldest_queue(rt, &mut self.retired, &mut self.left, steps) else {
+            return self.newest.take_envelope_as_newest_queue(rt, steps);
         };
         match took {
             Took::Again => {
@@ -218,7 +218,7 @@ impl Taker {
         if self.retired.reserve(1).is_err() {
             return Err((AdoptError::OutOfMemory, self));
         }
-        match open_queue_and_lay_onwards(
+        match open_queue_and_put_onwards_in_yard(
             rt,
             yard,
             self.alloc,
@@ -228,7 +228,7 @@ impl Taker {
             &bell,
         ) {
             Ok(queue) => {
-                self.newest.retire();
+                self.newest.retire_gate();
                 let older = replace(&mut self.newest, queue);
                 self.retired.push_back_reserved(older);
                 Ok(self)
@@ -251,7 +251,7 @@ impl Taker {
             mut newest,
             left: _,
         } = self;
-        newest.close();
+        newest.close_gate();
         Grave {
             end,
             epoch,

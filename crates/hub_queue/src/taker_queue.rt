@@ -93,36 +93,36 @@ impl Model for TakerQueue {
 
 impl TakerQueue {
     /// Whether the gate is enabled.
-    pub(crate) fn is_enabled(&self) -> bool
+    pub(crate) fn is_gate_enabled(&self) -> bool
         ensures { result ≡ nat_lt 0 self.now.keeper.at.enables }
     {
         self.keeper.enabled()
     }
 
     /// Enables the gate.
-    pub(crate) fn enable(&mut self)
+    pub(crate) fn enable_gate(&mut self)
         ensures { self.new ≡ enabled_queue self.old }
     {
         self.keeper.enable();
     }
 
     /// Retires the gate: every later entry is turned with `Moved`.
-    pub(crate) fn retire(&mut self)
+    pub(crate) fn retire_gate(&mut self)
         ensures { self.new ≡ retired_queue self.old }
     {
         self.keeper.retire();
     }
 
     /// Closes the gate: every later entry is turned.
-    pub(crate) fn close(&mut self)
+    pub(crate) fn close_gate(&mut self)
         ensures { self.new ≡ closed_queue self.old }
     {
         self.keeper.close();
     }
 
     /// Pops once, and counts the envelope for its line.
-    // It is inlined, and so are `take_as_newest_queue`, `Taker::take` and `pop`, since an envelope
-    // is large and each return copies it.
+    // It is inlined, and so are `take_envelope_as_newest_queue`, `Taker::take` and `pop`, since an
+    // envelope is large and each return copies it.
     #[inline(always)]
     pub(crate) fn pop<L: Ledger, R: Wait>(
         &mut self,
@@ -139,7 +139,7 @@ impl TakerQueue {
 
     /// Takes from the newest queue of an end.
     #[inline(always)]
-    pub(crate) fn take_as_newest_queue<L: Ledger, R: Wait>(
+    pub(crate) fn take_envelope_as_newest_queue<L: Ledger, R: Wait>(
         &mut self,
         rt: &R,
         steps: &mut Steps<L>,
@@ -179,7 +179,7 @@ impl TakerQueue {
 
     /// Takes from a retired queue. The look comes before the pop: where it found nobody, nothing is
     /// put there any more, and a pop of none shows that everything was taken.
-    pub(crate) fn take_as_retired_queue<L: Ledger, R: Wait>(
+    pub(crate) fn take_envelope_as_retired_queue<L: Ledger, R: Wait>(
         &mut self,
         rt: &R,
         steps: &mut Steps<L>,

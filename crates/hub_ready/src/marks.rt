@@ -158,7 +158,7 @@ impl Marks {
     }
 
     /// Marks a key, if there is a bit for it.
-    pub fn set(&mut self, key: usize)
+    pub fn mark_key(&mut self, key: usize)
         ensures set { HasBit self.old key → mark_of self.new key ≡ 1 }
         ensures others { SameBut key self.old self.new }
     {
@@ -171,7 +171,7 @@ impl Marks {
     }
 
     /// Takes the mark of a key away.
-    pub fn clear(&mut self, key: usize)
+    pub fn unmark_key(&mut self, key: usize)
         ensures clear { mark_of self.new key ≡ 0 }
         ensures others { SameBut key self.old self.new }
     {

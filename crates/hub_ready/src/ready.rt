@@ -62,7 +62,7 @@ const GROUP: usize = 16;
 ///
 /// ```rust
 /// let mut ready = Ready::new(alloc);
-/// ready.reserve(EndId(7), 0)?;
+/// ready.reserve_for_end(EndId(7), 0)?;
 /// ready.mark_and_list(EndId(7), 0);
 /// ready.mark_rung_ends(&mut listener);
 /// assert_eq!(rt; ready.marks.next_from(0), Some(0));
@@ -87,7 +87,7 @@ impl Ready {
     }
 
     /// Makes room for the mark of a key, and for the number of its end.
-    pub fn reserve(&mut self, end: EndId, key: usize) -> Result<(), OutOfMemory>
+    pub fn reserve_for_end(&mut self, end: EndId, key: usize) -> Result<(), OutOfMemory>
         ensures ok { OnOk result (HasBit self.new.marks key) }
         ensures marks { GrowsMarks self.old.marks self.new.marks }
         ensures listed { SameEntries self.old.listed.items self.new.listed.items }
@@ -112,7 +112,7 @@ impl Ready {
         ensures only { (self.new.listed.items ≡ self.old.listed.items)
             ⊎ (self.new.listed.items ≡ slice_set self.old.listed.items end.0 (key + 1)) }
     {
-        self.marks.set(key);
+        self.marks.mark_key(key);
         let number = end.0 as usize;
         if number < self.listed.len() && self.listed[number] == 0 && key < u32::MAX as usize {
             self.listed[number] = key as u32 + 1;
@@ -130,7 +130,7 @@ impl Ready {
         ensures only { (self.new.listed.items ≡ self.old.listed.items)
             ⊎ (self.new.listed.items ≡ slice_set self.old.listed.items end.0 0) }
     {
-        self.marks.clear(key);
+        self.marks.unmark_key(key);
         if self.is_key_of_end(end, key) {
             self.listed[end.0 as usize] = 0;
         }
@@ -216,7 +216,7 @@ impl Ready {
         ensures emptied { (steps : List BoardStep) × HasStepped listener.old listener.new steps
             × EmptiesBetween word (word + 1) steps × EmptiesNamed steps }
     {
-        let bits = listener.take_bits(word);
+        let bits = listener.take_bits_of_word(word);
         self.mark_ends_of_bits(word, bits);
     }
 
@@ -261,7 +261,7 @@ impl Ready {
         if let Some(entry) = self.listed.get(number) {
             let entry = *entry as usize;
             if entry > 0 {
-                self.marks.set(entry - 1);
+                self.marks.mark_key(entry - 1);
             }
         }
     }

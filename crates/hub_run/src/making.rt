@@ -76,7 +76,7 @@ impl<'s, C: Checkpoint> Drop for Made<'s, C> {
 }
 
 /// Gives each agent a seat at the word of one more agent, which the bell wakes.
-fn add_peer_to_every_seat(
+fn add_peer_agent_to_every_seat(
     seats: &mut [Seat],
     mut orders: Vec<Order>,
     bell: &Bell,
@@ -138,7 +138,7 @@ impl Seats {
             push_or_drop(&mut words, (orders, bell))?;
         }
         for (orders, bell) in words {
-            add_peer_to_every_seat(&mut seats, orders, &bell)?;
+            add_peer_agent_to_every_seat(&mut seats, orders, &bell)?;
             push_or_drop(&mut bells, bell)?;
         }
         Ok(Seats { seats, bells })

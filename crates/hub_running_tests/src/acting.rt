@@ -1,6 +1,6 @@
 //! How far an agent comes with its actions, shown by an actor that lives in memory.
 use crate::assert_same;
-use hub_agent::{Acted, Actor, OutOfMemory, act_until_ordered_to_stop};
+use hub_agent::{Acted, Actor, OutOfMemory, do_actions_until_ordered_to_stop};
 use hub_envelope::AgentId;
 use hub_script::{ActionKind, Script};
 use std::sync::Wait;
@@ -27,7 +27,7 @@ impl Actor for Tally {
         self.done >= self.most
     }
 
-    fn act<R: Wait>(&mut self, _rt: &R, _action: &ActionKind) -> Result<(), OutOfMemory> {
+    fn do_action<R: Wait>(&mut self, _rt: &R, _action: &ActionKind) -> Result<(), OutOfMemory> {
         self.done = self.done.saturating_add(1);
         Ok(())
     }
@@ -52,7 +52,7 @@ fn an_order_ends_the_actions(rt: HostRuntime) -> Result<(), Fail> {
             done: 0,
             most: *most,
         };
-        let acted = act_until_ordered_to_stop(&mut tally, &rt, &script, AgentId(0))?;
+        let acted = do_actions_until_ordered_to_stop(&mut tally, &rt, &script, AgentId(0))?;
         let Acted {
             done: told,
             ordered: was_ordered,

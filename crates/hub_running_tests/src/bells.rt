@@ -24,7 +24,7 @@ fn rung(listener: &mut Listener) -> Option<u32> {
     }
     let mut found = None;
     for word in 16 * group..16 * group + 16 {
-        let bits = listener.take_bits(word as usize);
+        let bits = listener.take_bits_of_word(word as usize);
         if bits.count_ones() > 1 || bits != 0 && found.is_some() {
             return None;
         }
@@ -59,9 +59,14 @@ fn rings_of_two_bells_are_found_together(rt: HostRuntime) {
     bell.clone().expect(&rt, "memory").ring(EndId(5_450));
     other.ring(EndId(7));
     assert_same(&rt, "names", listener.take_rung_groups(), 1 | 1 << 5);
-    assert_same(&rt, "word 0", listener.take_bits(0), 1 << 5 | 1 << 7);
-    assert_same(&rt, "word 85", listener.take_bits(85), 1 << 10);
-    assert_same(&rt, "word 85 again", listener.take_bits(85), 0);
+    assert_same(
+        &rt,
+        "word 0",
+        listener.take_bits_of_word(0),
+        1 << 5 | 1 << 7,
+    );
+    assert_same(&rt, "word 85", listener.take_bits_of_word(85), 1 << 10);
+    assert_same(&rt, "word 85 again", listener.take_bits_of_word(85), 0);
 }
 
 #[test]

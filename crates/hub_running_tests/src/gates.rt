@@ -111,11 +111,16 @@ fn gate_words(rt: HostRuntime) {
     assert_shows(&rt, &keeper, "Keeper { word: 7 }");
     assert_same(&rt, "one entry", refusal_of(one), Some(Refusal::Moved));
     assert_shows(&rt, &keeper, "Keeper { word: 7 }");
-    let Err(keeper) = keeper.try_into_last_word() else {
+    let Err(keeper) = keeper.try_into_last_gate_word() else {
         panic!(rt; "an entry is left");
     };
     drop(other);
-    assert_same(&rt, "last word", keeper.try_into_last_word().ok(), Some(7));
+    assert_same(
+        &rt,
+        "last word",
+        keeper.try_into_last_gate_word().ok(),
+        Some(7),
+    );
 }
 
 #[test]

@@ -19,7 +19,7 @@ use Rattle.hub_script.specs.declared.script_reader.NamedEnd.{NamedEnd}
 use Rattle.hub_script.specs.Before.{DeclaresMember, DeclaresPort, Gets, Hands, HoldsAt, IsDeclared, IsMember, IsPort, agent_kinds}
 use Rattle.hub_script.specs.Contents.{declared_agents, with_declared, with_channel, with_member}
 use Rattle.hub_script.specs.Context.{acting}
-use Rattle.hub_script.specs.Known.{Known, declaring, giving, giving_all, holding, name_count, naming_more, next_member, next_port, second_port, taking_more, with_handed, with_holds, with_script}
+use Rattle.hub_script.specs.Known.{Known, declaring, giving, giving_all, holding, name_count, naming_more, next_broadcast_member, next_port, second_port, taking_more, with_handed, with_holds, with_script}
 use Rattle.hub_script.proofs.Naming.{IsFresh, IsNumbered, fresh_all, fresh_given, fresh_with, holds_declared, holds_given, holds_like, holds_received, holds_transferred, member_declared, name_like, numbered_more, port_declared}
 use Rattle.hub_script.proofs.OneLineMore.{Any-before, Any-cases, GivesUp, held_before, held_by_last, held_still, one_agent_more}
 use Rattle.hub_script.proofs.Standing.{Stands, acted, declared_still, holds_same, same_acted, same_handed, same_names}
@@ -110,7 +110,7 @@ declares_agent before k kind answer origin s = record {
     line = form.Agent kind answer
 
 pub declares_member : (before : List Form) (k : Known) (name : List ℕ) (at : ℕ) (on : List ℕ) → Stands before k → ¬ IsDeclared before name
-    → Stands (before ++ form.Member name at on ∷ []) (with_script (declaring k name (next_member k.script) (record { 0 = at })) (with_member k.script (record { at = record { 0 = at }; name = name; on = on })))
+    → Stands (before ++ form.Member name at on ∷ []) (with_script (declaring k name (next_broadcast_member k.script) (record { 0 = at })) (with_member k.script (record { at = record { 0 = at }; name = name; on = on })))
 declares_member before k name at on s free = record {
   count = (let n : length k.script.0 + length k.script.1 + length k.script.2 + length k.script.3 ≡ length before = s.count in simp length-append (omega arith));
   agents = s.agents ∙ sym (append-nil (agent_kinds before)) ∙ sym (one_agent_more before line);
@@ -135,7 +135,7 @@ declares_member before k name at on s free = record {
     line = form.Member name at on
 
     member : NamedEnd
-    member = next_member k.script
+    member = next_broadcast_member k.script
 
     count : ℕ
     count = name_count k.script

@@ -23,7 +23,7 @@ use Rattle.serde_json.proofs.Views.{get_member-put, get_member-put_other}
 use Rattle.hub_text.specs.Reading.{some_or}
 use Rattle.hub_script.specs.declared.error.ScriptError.TheVariants.{Syntax}
 use Rattle.hub_script.specs.Fields.{ScriptRead, member_names}
-use Rattle.hub_script.specs.JsonData.{IsWritable, data_of, are_numbers_in_range, items_in_range, items_of, json_in, members_in_range, members_of, json_names}
+use Rattle.hub_script.specs.JsonData.{IsWritable, data_of, are_numbers_in_range, items_in_range, items_of, read_json, members_in_range, members_of, json_names}
 
 -- ---- a value is converted exactly where its numbers are in range
 
@@ -78,11 +78,11 @@ by_value : (o : Option json.Json) (j : json.Json) → some_or Syntax o ≡ Ok j 
 by_value None j h = cc
 by_value (Some i) j h = let same : i ≡ j = cc in ap (λ (x : json.Json). converted (Some x)) same
 
-pub read_in_range : (text : List ℕ) (j : json.Json) → some_or Syntax (json_in text) ≡ Ok j → are_numbers_in_range j ≡ true → some_or Syntax (read text) ≡ Ok (data_of j)
-read_in_range text j h g = by_value (json_in text) j h ∙ ap (λ (o : Option Data). some_or Syntax o) (in_range j g)
+pub read_in_range : (text : List ℕ) (j : json.Json) → some_or Syntax (read_json text) ≡ Ok j → are_numbers_in_range j ≡ true → some_or Syntax (read text) ≡ Ok (data_of j)
+read_in_range text j h g = by_value (read_json text) j h ∙ ap (λ (o : Option Data). some_or Syntax o) (in_range j g)
 
-pub read_out_of_range : (text : List ℕ) (j : json.Json) → some_or Syntax (json_in text) ≡ Ok j → are_numbers_in_range j ≡ false → some_or Syntax (read text) ≡ Err Syntax
-read_out_of_range text j h g = by_value (json_in text) j h ∙ ap (λ (o : Option Data). some_or Syntax o) (out_of_range j g)
+pub read_out_of_range : (text : List ℕ) (j : json.Json) → some_or Syntax (read_json text) ≡ Ok j → are_numbers_in_range j ≡ false → some_or Syntax (read text) ≡ Err Syntax
+read_out_of_range text j h g = by_value (read_json text) j h ∙ ap (λ (o : Option Data). some_or Syntax o) (out_of_range j g)
 
 -- ---- the field of a name is the last member of that name
 

@@ -25,7 +25,7 @@ use Rattle.hub_script.specs.Before.{Gets, Hands, HoldsAt, IsDeclared, IsMember, 
 use Rattle.hub_script.specs.Context.{acting, adding, adding_action, adding_channel, adding_member, after_form, agent_of, are_known, casting, declared_ends, has_no_action, has_room, has_twice, holds_list, is_unused, is_placed, is_within, lists_source, declared_end_of_name, posting, run, sending, tests, value_or}
 use Rattle.hub_script.specs.Contents.{actions, with_declared, with_channel, with_member}
 use Rattle.hub_script.specs.Fields.{ScriptRead}
-use Rattle.hub_script.specs.Known.{Known, declaring, declared_end, giving, giving_all, holding, next_member, next_port, queue_of, second_port, taking_more, with_handed, with_holds, with_script}
+use Rattle.hub_script.specs.Known.{Known, declaring, declared_end, giving, giving_all, holding, next_broadcast_member, next_port, queue_of, second_port, taking_more, with_handed, with_holds, with_script}
 use Rattle.hub_script.specs.Refusals.{AreKnown, CanTransfer, CannotTransfer, HasUnknown, IsAccepted, IsMisplaced, IsRefusedValue, IsTooLarge, ListsSource, StandsTwice}
 use Rattle.hub_script.specs.Uses.{agents_named, body_of, names_used, others_named, ports_named, transfer_of, form_url}
 use Rattle.hub_script.proofs.Continuing.{closes, declares_agent, declares_channel, declares_member, hands_on, plainly, receives, transfers}
@@ -290,7 +290,7 @@ member_adds before k name at on p =
     f = form.Member name at on
 
     next : AgentId → Known
-    next a = with_script (declaring k name (next_member k.script) a) (with_member k.script (record { at = a; name = name; on = on }))
+    next a = with_script (declaring k name (next_broadcast_member k.script) a) (with_member k.script (record { at = a; name = name; on = on }))
 
 adds : (before : List Form) (k : Known) (f : Form) → Passes before k f → Outcome before f (adding k f)
 adds before k (form.Agent kind answer) p = agent_adds before k kind answer p

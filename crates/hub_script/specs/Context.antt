@@ -28,7 +28,7 @@ use Rattle.hub_script.specs.declared.error.ScriptError.TheVariants.{Syntax, Unkn
 use Rattle.hub_script.specs.declared.error.DataCloneCause.TheVariants.{Source, Twice, Detached}
 use Rattle.hub_script.specs.Contents.{actions, declared_agents, line_count, with_action, with_declared, with_channel, with_member}
 use Rattle.hub_script.specs.Fields.{ScriptRead}
-use Rattle.hub_script.specs.Known.{Known, declaring, declared_end, giving, giving_all, holding, next_member, next_port, queue_of, second_port, taking_more, with_handed, with_holds, with_script}
+use Rattle.hub_script.specs.Known.{Known, declaring, declared_end, giving, giving_all, holding, next_broadcast_member, next_port, queue_of, second_port, taking_more, with_handed, with_holds, with_script}
 use Rattle.hub_script.specs.Uses.{agents_named, members_named, names_used, ports_named, transfer_of, transferred}
 
 -- ---- what is known of agents and names
@@ -211,7 +211,7 @@ adding_channel k first second at = do
 unfoldable pub adding_member : Known → List ℕ → ℕ → List ℕ → ScriptRead Known
 adding_member k name at on = do
   a ← agent_of k at
-  Ok (with_script (declaring k name (next_member k.script) a) (with_member k.script (record { at = a; name = name; on = on })))
+  Ok (with_script (declaring k name (next_broadcast_member k.script) a) (with_member k.script (record { at = a; name = name; on = on })))
 
 -- what the agent transfers it doesn't hold any more
 abbrev pub transferring : Known → AgentId → List NamedEnd → ActionKind → ScriptRead Known

@@ -56,8 +56,8 @@ abbrev pub items_in : {A : Type 0} → List (Value A) → Items
 items_in vs = items_of (items_view vs)
 
 -- the JSON value that a text is
-abbrev pub json_in : List ℕ → Option json.Json
-json_in text = option_and_then (λ p. json.if_last p.0 p.1) (json.value max_depth (tokens text))
+abbrev pub read_json : List ℕ → Option json.Json
+read_json text = option_and_then (λ p. json.if_last p.0 p.1) (json.value max_depth (tokens text))
 
 -- what is written of the value reads as its data
 pub record IsWritable (j : json.Json) : Type 0 where

@@ -42,8 +42,8 @@ next_port s = record { kind = Port; place = port_count s; number = name_count s 
 abbrev pub second_port : Contents → NamedEnd
 second_port s = record { kind = Port; place = port_count s + 1; number = name_count s + 1 }
 
-abbrev pub next_member : Contents → NamedEnd
-next_member s = record { kind = Member; place = length (members s); number = name_count s }
+abbrev pub next_broadcast_member : Contents → NamedEnd
+next_broadcast_member s = record { kind = Member; place = length (members s); number = name_count s }
 
 -- Ends are numbered: the queues of the agents, then the ports, then the members, each in the order of the
 -- file. Declarations stand before all actions, so an action finds the numbers that stay.

@@ -107,7 +107,7 @@ impl ScriptReader {
         ensures { ReadsTo self.new result (adding_member (known self.old) name at on) }
     {
         let at = self.agent_of_number(at)?;
-        let member = self.next_member();
+        let member = self.next_broadcast_member();
         self.declare_held_name(alloc, &name, member, at)?;
         self.push_member(DeclaredMember { at, name, on })
     }
@@ -174,8 +174,8 @@ impl ScriptReader {
         let source = self.declared_end_of_name(port)?;
         let ports = self.ends_named(alloc, transfer)?;
         let body = body_or_syntax_error(body)?;
-        let transfer = self.port_ids_of(alloc, ports.as_slice())?;
-        let port = self.end_id_of(source);
+        let transfer = self.ids_of_named_ports(alloc, ports.as_slice())?;
+        let port = self.id_of_named_end(source);
         self.push_action(
             agent,
             ActionKind::Post {
@@ -184,7 +184,7 @@ impl ScriptReader {
                 transfer,
             },
         )?;
-        self.mark_all_released(agent, ports.as_slice());
+        self.mark_all_released_by_agent(agent, ports.as_slice());
         Ok(())
     }
 
@@ -204,7 +204,7 @@ impl ScriptReader {
         let queue = queue_of_agent(self.agent_of_number(to)?);
         let ports = self.ends_named(alloc, transfer)?;
         let body = body_or_syntax_error(body)?;
-        let transfer = self.port_ids_of(alloc, ports.as_slice())?;
+        let transfer = self.ids_of_named_ports(alloc, ports.as_slice())?;
         self.push_action(
             agent,
             ActionKind::Send {
@@ -213,7 +213,7 @@ impl ScriptReader {
                 transfer,
             },
         )?;
-        self.mark_all_released(agent, ports.as_slice());
+        self.mark_all_released_by_agent(agent, ports.as_slice());
         Ok(())
     }
 
@@ -229,7 +229,7 @@ impl ScriptReader {
     {
         let named = self.declared_end_of_name(member)?;
         let body = body_or_syntax_error(body)?;
-        let member = self.end_id_of(named);
+        let member = self.id_of_named_end(named);
         self.push_action(agent, ActionKind::Cast { member, body })
     }
 
@@ -238,18 +238,18 @@ impl ScriptReader {
         ensures { ReadsTo self.new result
             (adding_action (known self.old) agent (ActionForm.Start name.now)) }
     {
-        let end = self.end_to_start(agent, name)?;
+        let end = self.id_of_end_to_start(agent, name)?;
         self.push_action(agent, ActionKind::Start { end })
     }
 
     /// What the agent starts: its own queue, or a port.
-    fn end_to_start(&self, agent: AgentId, name: &Text) -> Result<EndId, ScriptError>
+    fn id_of_end_to_start(&self, agent: AgentId, name: &Text) -> Result<EndId, ScriptError>
         ensures { IsRead result (started_end (known self.now) agent name.now) }
     {
         if name.as_str() == QUEUE {
             Ok(queue_of_agent(agent))
         } else {
-            Ok(self.end_id_of(self.declared_end_of_name(name)?))
+            Ok(self.id_of_named_end(self.declared_end_of_name(name)?))
         }
     }
 
@@ -259,9 +259,9 @@ impl ScriptReader {
             (adding_action (known self.old) agent (ActionForm.Close name.now)) }
     {
         let named = self.declared_end_of_name(name)?;
-        let end = self.end_id_of(named);
+        let end = self.id_of_named_end(named);
         self.push_action(agent, ActionKind::Close { end })?;
-        self.mark_released(agent, named);
+        self.mark_released_by_agent(agent, named);
         Ok(())
     }
 
@@ -271,8 +271,8 @@ impl ScriptReader {
             (adding_action (known self.old) agent (ActionForm.Receive name.now)) }
     {
         let named = self.declared_end_of_name(name)?;
-        let port = self.end_id_of(named);
+        let port = self.id_of_named_end(named);
         self.push_action(agent, ActionKind::Receive { port })?;
-        self.mark_held(agent, named)
+        self.mark_held_by_agent(agent, named)
     }
 }

@@ -85,7 +85,7 @@ pub(crate) fn origin_in(
 }
 
 /// The texts of an array of two.
-pub(crate) fn two_texts_in(
+pub(crate) fn pair_of_texts_in(
     alloc: Global,
     line: &Value<'_>,
     name: &str,

@@ -45,7 +45,7 @@ pub(crate) const KEYWORDS: [Keyword; 15] = [
 
 impl Keyword {
     /// The first keyword that the object has as a field.
-    pub(crate) fn of_object(line: &Value<'_>) -> Option<Keyword>
+    pub(crate) fn first_in_fields_of_object(line: &Value<'_>) -> Option<Keyword>
         ensures { result ≡ keyword_of (data_in line.now) }
     {
         KEYWORDS

@@ -16,12 +16,13 @@ mod read;
 mod read_form;
 mod script;
 mod script_reader;
-mod testing;
+mod validating;
 mod values;
 
 pub use action::{Action, ActionKind};
 pub use error::{DataCloneCause, ScriptError};
 pub use hub_envelope::OutOfMemory;
 pub use script::{
-    AgentKind, DeclaredAgent, DeclaredChannel, DeclaredMember, Script, prove_script_reading_rules,
+    AgentKind, DeclaredAgent, DeclaredChannel, DeclaredMember, Script,
+    prove_laws_of_accepted_script_lines,
 };

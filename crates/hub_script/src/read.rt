@@ -11,7 +11,7 @@ use crate::error::ScriptError;
 use crate::read_form::read_form;
 use crate::script::Script;
 use crate::script_reader::ScriptReader;
-use hub_text::split_text_line;
+use hub_text::split_off_first_text_line;
 use json::Scratch;
 use std::alloc::Global;
 
@@ -38,7 +38,7 @@ impl Script {
         let mut number = 0;
         let mut rest = text;
         while !rest.is_empty() {
-            let (line, after) = split_text_line(rest);
+            let (line, after) = split_off_first_text_line(rest);
             number += 1;
             if let Err(error) = reader.add_line(alloc, &mut scratch, line) {
                 return Err((number, error));

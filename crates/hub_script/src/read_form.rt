@@ -7,7 +7,7 @@ ghost use Rattle.hub_script.specs.Fields.{IsRead};
 ghost use Rattle.hub_script.specs.Form.{fields_in, form_by, form_of, form_with, has_only};
 ghost use Rattle.hub_script.specs.Form.{object_in, form_in_text};
 ghost use Rattle.hub_script.specs.Shapes.{NUMBER, has_name};
-ghost use Rattle.hub_script.specs.JsonData.{IsWritable, data_in, json_in, json_names};
+ghost use Rattle.hub_script.specs.JsonData.{IsWritable, data_in, read_json, json_names};
 ghost use Rattle.hub_text.specs.Reading.{IsReadAs, some_or};
 ghost use Rattle.json.specs.Tree.{HasNumbers, depth};
 ghost use Rattle.json.specs.Value.{members_view, value_view};
@@ -15,8 +15,8 @@ ghost use Rattle.serde_json.specs.Read.{max_depth, read};
 
 use crate::error::ScriptError;
 use crate::fields::{
-    body_in, event_in, kind_in, number_in, origin_in, require_queue_word, text_in, text_list_in,
-    two_texts_in,
+    body_in, event_in, kind_in, number_in, origin_in, pair_of_texts_in, require_queue_word,
+    text_in, text_list_in,
 };
 use crate::form::{ActionForm, Form};
 use crate::keyword::Keyword;
@@ -51,7 +51,7 @@ fn parse_form(alloc: Global, scratch: &mut Scratch, text: &str) -> Result<Form, 
     ensures { IsRead result (form_in_text text.now) }
 {
     let line = object_in(alloc, scratch, text)?;
-    let Some(keyword) = Keyword::of_object(&line) else {
+    let Some(keyword) = Keyword::first_in_fields_of_object(&line) else {
         return Err(ScriptError::UnknownAction);
     };
     read_form_with_known_fields(alloc, keyword, &line)
@@ -66,7 +66,7 @@ fn object_in<'a>(
     ensures says { IsReadAs ScriptError.OutOfMemory data_in result (object_in text.now) }
     ensures writable { IfOk result (λ line. IsWritable (value_view line)) }
 {
-    let line = read_value_in_range(alloc, scratch, text)?;
+    let line = read_json_with_numbers_in_range(alloc, scratch, text)?;
     if is_object(&line) {
         Ok(line)
     } else {
@@ -75,7 +75,7 @@ fn object_in<'a>(
 }
 
 /// The JSON value that the text is, where its numbers are in range.
-fn read_value_in_range<'a>(
+fn read_json_with_numbers_in_range<'a>(
     alloc: Global,
     scratch: &'a mut Scratch,
     text: &'a str,
@@ -84,7 +84,7 @@ fn read_value_in_range<'a>(
         (some_or ScriptError.Syntax (read text.now)) }
     ensures writable { IfOk result (λ value. IsWritable (value_view value)) }
 {
-    let value = json_in(alloc, scratch, text)?;
+    let value = read_json(alloc, scratch, text)?;
     if are_numbers_in_range(&value) {
         Ok(value)
     } else {
@@ -93,13 +93,13 @@ fn read_value_in_range<'a>(
 }
 
 /// The JSON value that the text is, whatever its numbers are.
-fn json_in<'a>(
+fn read_json<'a>(
     alloc: Global,
     scratch: &'a mut Scratch,
     text: &'a str,
 ) -> Result<Value<'a>, ScriptError>
     ensures says { IsReadAs ScriptError.OutOfMemory value_view result
-        (some_or ScriptError.Syntax (json_in text.now)) }
+        (some_or ScriptError.Syntax (read_json text.now)) }
     ensures numbers { IfOk result (λ value. HasNumbers (value_view value)) }
     ensures nests { IfOk result (λ value. depth (value_view value) ≤ max_depth) }
 {
@@ -150,39 +150,39 @@ fn read_form_of_keyword(
         Keyword::Cast => read_cast_form(alloc, line),
         Keyword::Start => {
             let name = text_in(alloc, line, "start")?;
-            read_agent_into_action_form(line, ActionForm::Start { name })
+            read_acting_agent_into_form(line, ActionForm::Start { name })
         }
         Keyword::Loaded => {
             require_queue_word(line, "loaded")?;
-            read_agent_into_action_form(line, ActionForm::Loaded)
+            read_acting_agent_into_form(line, ActionForm::Loaded)
         }
         Keyword::Close => {
             let name = text_in(alloc, line, "close")?;
-            read_agent_into_action_form(line, ActionForm::Close { name })
+            read_acting_agent_into_form(line, ActionForm::Close { name })
         }
         Keyword::Wait => {
             let messages = number_in(line, "wait")?;
-            read_agent_into_action_form(line, ActionForm::Wait { messages })
+            read_acting_agent_into_form(line, ActionForm::Wait { messages })
         }
         Keyword::Receive => {
             let port = text_in(alloc, line, "receive")?;
-            read_agent_into_action_form(line, ActionForm::Receive { port })
+            read_acting_agent_into_form(line, ActionForm::Receive { port })
         }
         Keyword::Order => {
             let to = number_in(line, "order")?;
-            read_agent_into_action_form(line, ActionForm::Order { to })
+            read_acting_agent_into_form(line, ActionForm::Order { to })
         }
         Keyword::Event => {
             let event = event_in(line, "event")?;
-            read_agent_into_action_form(line, ActionForm::Event { event })
+            read_acting_agent_into_form(line, ActionForm::Event { event })
         }
         Keyword::Hand => {
             let to = number_in(line, "hand")?;
-            read_agent_into_action_form(line, ActionForm::Hand { to })
+            read_acting_agent_into_form(line, ActionForm::Hand { to })
         }
         Keyword::Fetch => {
             let from = number_in(line, "fetch")?;
-            read_agent_into_action_form(line, ActionForm::Fetch { from })
+            read_acting_agent_into_form(line, ActionForm::Fetch { from })
         }
     }
 }
@@ -192,13 +192,13 @@ fn has_only_form_fields(keyword: Keyword, line: &Value<'_>) -> bool
     ensures { result ≡ has_only keyword (data_in line.now) }
 {
     match line {
-        Value::Object(fields) => are_fields_of(keyword, fields),
+        Value::Object(fields) => are_all_fields_of_keyword(keyword, fields),
         _ => true,
     }
 }
 
 /// Each name is that of a field of the form.
-fn are_fields_of(keyword: Keyword, fields: &[(&str, Value<'_>)]) -> bool
+fn are_all_fields_of_keyword(keyword: Keyword, fields: &[(&str, Value<'_>)]) -> bool
     ensures { result ≡ list_all (has_name keyword) (json_names (members_view fields.now)) }
 {
     for field in fields {
@@ -210,7 +210,7 @@ fn are_fields_of(keyword: Keyword, fields: &[(&str, Value<'_>)]) -> bool
 }
 
 /// The action of the agent that the field `at` names.
-fn read_agent_into_action_form(line: &Value<'_>, action: ActionForm) -> Result<Form, ScriptError>
+fn read_acting_agent_into_form(line: &Value<'_>, action: ActionForm) -> Result<Form, ScriptError>
     ensures { IsRead result (fields_in ((codes "at", NUMBER) ∷ []) (λ at. Form.Action at action)
         (data_in line.now)) }
 {
@@ -229,7 +229,7 @@ fn read_agent_form(alloc: Global, line: &Value<'_>) -> Result<Form, ScriptError>
 fn read_channel_form(alloc: Global, line: &Value<'_>) -> Result<Form, ScriptError>
     ensures { IsRead result (form_by Keyword.Channel (data_in line.now)) }
 {
-    let (first, second) = two_texts_in(alloc, line, "channel")?;
+    let (first, second) = pair_of_texts_in(alloc, line, "channel")?;
     let at = number_in(line, "at")?;
     Ok(Form::Channel { first, second, at })
 }
@@ -250,7 +250,7 @@ fn read_post_form(alloc: Global, line: &Value<'_>) -> Result<Form, ScriptError>
     let port = text_in(alloc, line, "post")?;
     let body = body_in(alloc, line, "body")?;
     let transfer = text_list_in(alloc, line, "transfer")?;
-    read_agent_into_action_form(
+    read_acting_agent_into_form(
         line,
         ActionForm::Post {
             port,
@@ -267,7 +267,7 @@ fn read_send_form(alloc: Global, line: &Value<'_>) -> Result<Form, ScriptError>
     let to = number_in(line, "send")?;
     let body = body_in(alloc, line, "body")?;
     let transfer = text_list_in(alloc, line, "transfer")?;
-    read_agent_into_action_form(line, ActionForm::Send { to, body, transfer })
+    read_acting_agent_into_form(line, ActionForm::Send { to, body, transfer })
 }
 
 fn read_cast_form(alloc: Global, line: &Value<'_>) -> Result<Form, ScriptError>
@@ -276,5 +276,5 @@ fn read_cast_form(alloc: Global, line: &Value<'_>) -> Result<Form, ScriptError>
 {
     let member = text_in(alloc, line, "cast")?;
     let body = body_in(alloc, line, "body")?;
-    read_agent_into_action_form(line, ActionForm::Cast { member, body })
+    read_acting_agent_into_form(line, ActionForm::Cast { member, body })
 }

@@ -166,7 +166,7 @@ impl Script {
 /// refusals mean: behind the same text lines a text line is refused in one way at most, and in none
 /// where it is accepted; so a text has one first bad text line with one kind, or is all accepted.
 /// It does nothing.
-pub fn prove_script_reading_rules()
+pub fn prove_laws_of_accepted_script_lines()
     ensures posts { PostsHeld }
     ensures sends { SendsHeld }
     ensures starts { StartsHeld }

@@ -8,8 +8,8 @@ ghost use Rattle.hub_script.specs.Context.{holds_named, is_member};
 ghost use Rattle.hub_script.specs.Context.{is_port, declared_end_of_name};
 ghost use Rattle.hub_script.specs.Fields.{IsRead};
 ghost use Rattle.hub_script.specs.Known.{declaring, declared_end, giving, giving_all, holding};
-ghost use Rattle.hub_script.specs.Known.{naming_more, next_member, next_port, nothing, queue_of};
-ghost use Rattle.hub_script.specs.Known.{second_port};
+ghost use Rattle.hub_script.specs.Known.{naming_more, next_broadcast_member, next_port, nothing};
+ghost use Rattle.hub_script.specs.Known.{queue_of, second_port};
 ghost use Rattle.hub_script.specs.Known.{taking_more, with_handed, with_holds, with_names};
 ghost use Rattle.hub_script.specs.Known.{with_script};
 
@@ -99,7 +99,7 @@ impl ScriptReader {
     }
 
     /// Declarations stand before all actions.
-    pub(crate) fn may_declare(&self) -> bool
+    pub(crate) fn are_declarations_still_allowed(&self) -> bool
         ensures { result ≡ has_no_action (actions (known self.now).script) }
     {
         self.script.actions().is_empty()
@@ -219,7 +219,7 @@ impl ScriptReader {
     }
 
     /// The number of the port or member as an end.
-    pub(crate) fn end_id_of(&self, named: NamedEnd) -> EndId
+    pub(crate) fn id_of_named_end(&self, named: NamedEnd) -> EndId
         ensures { result ≡ declared_end (known self.now).script named }
     {
         let before = match named.kind {
@@ -230,7 +230,7 @@ impl ScriptReader {
     }
 
     /// The numbers of the ports as ends.
-    pub(crate) fn port_ids_of(
+    pub(crate) fn ids_of_named_ports(
         &self,
         alloc: Global,
         ports: &[NamedEnd],
@@ -238,17 +238,21 @@ impl ScriptReader {
         requires few { length ports.now ≤ MAX_PORTS }
         ensures { IsRead result (Ok (map (declared_end (known self.now).script) ports.now)) }
     {
-        let ends = self.end_ids_of(alloc, ports)?;
+        let ends = self.ids_of_named_ends(alloc, ports)?;
         Ok(Ports::try_from_vec(ends).unwrap())
     }
 
-    fn end_ids_of(&self, alloc: Global, ports: &[NamedEnd]) -> Result<Vec<EndId>, OutOfMemory>
+    fn ids_of_named_ends(
+        &self,
+        alloc: Global,
+        ports: &[NamedEnd],
+    ) -> Result<Vec<EndId>, OutOfMemory>
         ensures { IfOk result
             (λ ends. ends.items ≡ map (declared_end (known self.now).script) ports.now) }
     {
         ports
             .iter()
-            .map(|port| self.end_id_of(*port))
+            .map(|port| self.id_of_named_end(*port))
             .collect(alloc)
     }
 
@@ -281,8 +285,8 @@ impl ScriptReader {
     }
 
     /// What the next member is.
-    pub(crate) fn next_member(&self) -> NamedEnd
-        ensures { result ≡ next_member (known self.now).script }
+    pub(crate) fn next_broadcast_member(&self) -> NamedEnd
+        ensures { result ≡ next_broadcast_member (known self.now).script }
     {
         let members = self.script.members().len();
         NamedEnd {
@@ -330,7 +334,11 @@ impl ScriptReader {
     }
 
     /// The agent holds the name from now on.
-    pub(crate) fn mark_held(&mut self, agent: AgentId, named: NamedEnd) -> Result<(), ScriptError>
+    pub(crate) fn mark_held_by_agent(
+        &mut self,
+        agent: AgentId,
+        named: NamedEnd,
+    ) -> Result<(), ScriptError>
         ensures { ReadsTo self.new result
             (Ok (with_holds (known self.old) (taking_more (holding agent named)))) }
     {
@@ -339,19 +347,19 @@ impl ScriptReader {
     }
 
     /// The agent doesn't hold the name any more.
-    pub(crate) fn mark_released(&mut self, agent: AgentId, named: NamedEnd)
+    pub(crate) fn mark_released_by_agent(&mut self, agent: AgentId, named: NamedEnd)
         ensures { known self.new ≡ with_holds (known self.old) (giving (holding agent named)) }
     {
         self.held.remove(&NameHolder::new(agent, named));
     }
 
     /// The agent doesn't hold the ports any more.
-    pub(crate) fn mark_all_released(&mut self, agent: AgentId, ports: &[NamedEnd])
+    pub(crate) fn mark_all_released_by_agent(&mut self, agent: AgentId, ports: &[NamedEnd])
         ensures { known self.new ≡ with_holds (known self.old) (giving_all agent ports.now) }
     {
         let mut rest = ports;
         while let Some((first, others)) = rest.split_first() {
-            self.mark_released(agent, *first);
+            self.mark_released_by_agent(agent, *first);
             rest = others;
         }
     }
@@ -375,7 +383,7 @@ impl ScriptReader {
         ensures { ReadsTo self.new result (Ok (declaring (known self.old) name.now named agent)) }
     {
         self.insert_name(alloc, name, named)?;
-        self.mark_held(agent, named)
+        self.mark_held_by_agent(agent, named)
     }
 
     fn insert_name(

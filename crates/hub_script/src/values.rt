@@ -56,13 +56,13 @@ pub(crate) fn are_numbers_in_range(value: &Value<'_>) -> bool
     match value {
         Value::Null | Value::Bool(_) | Value::String(_) => true,
         Value::Number(text) => number_of(text).is_some(),
-        Value::Array(items) => are_item_numbers_in_range(items),
-        Value::Object(members) => are_member_numbers_in_range(members),
+        Value::Array(items) => are_numbers_of_json_items_in_range(items),
+        Value::Object(members) => are_numbers_of_json_members_in_range(members),
     }
 }
 
 #[cycle(are_numbers_in_range)]
-fn are_item_numbers_in_range(items: &[Value<'_>]) -> bool
+fn are_numbers_of_json_items_in_range(items: &[Value<'_>]) -> bool
     ensures { result ≡ items_in_range (items_view items.now) }
 {
     for item in items {
@@ -74,7 +74,7 @@ fn are_item_numbers_in_range(items: &[Value<'_>]) -> bool
 }
 
 #[cycle(are_numbers_in_range)]
-fn are_member_numbers_in_range(members: &[(&str, Value<'_>)]) -> bool
+fn are_numbers_of_json_members_in_range(members: &[(&str, Value<'_>)]) -> bool
     ensures { result ≡ members_in_range (members_view members.now) }
 {
     for member in members {

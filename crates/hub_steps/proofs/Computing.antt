@@ -15,7 +15,7 @@ use Rattle.hub_core.specs.History.{History}
 use Rattle.hub_core.specs.declared.step.Listing.{Listing}
 use Rattle.hub_core.specs.declared.step.Listing.TheVariants.{HoldsTarget}
 use Rattle.hub_core.specs.Facts.{Facts, facts}
-use Rattle.hub_core.specs.Posting.{may_post, listing}
+use Rattle.hub_core.specs.Posting.{may_post_on_line, listing}
 use Rattle.hub_core.specs.Legal.{LegalAfter}
 use Rattle.hub_core.specs.Shows.{Shows, FitsAndShows}
 use Rattle.hub_steps.specs.declared.shown.Shown.{Shown}
@@ -26,7 +26,7 @@ use Rattle.hub_steps.specs.declared.step_line.StepLine.{StepLine}
 use Rattle.hub_steps.specs.Computation.{Computation, MayGive, pair, pure, ask, ask_then, step, step_then, ◌>>=◌}
 use Rattle.hub_steps.specs.Performed.{ComputesAt, PerformsAt}
 use Rattle.hub_steps.specs.Lives.{AllLives}
-use Rattle.hub_steps.specs.Unfolding.{sender_of, over_line, on_line_of, enter, go_on, send_inside, send, post_listing, post_count, post_may, post, start_made, then_start, start_if_worker_queue, start_adopted, adopt, sender_of_closing_notice, tell_inside, tell, shown_by_closing_outcomes, close_on, close, close_each, close_ports, close_swept, sweep, core_steps, cast_inside, line_zero, cast_over, cast_each, cast_all, cast}
+use Rattle.hub_steps.specs.Unfolding.{sender_of, over_line, on_line_of, enter, go_on, send_inside, send, post_listing, post_count, post_may, post, start_made, then_start, start_if_worker_queue, start_adopted, adopt, sender_putting_notice, tell_inside, tell, shown_by_closing_outcomes, close_on, close, close_each, close_ports, close_swept, sweep, core_steps, cast_inside, line_zero, cast_over, cast_each, cast_all, cast}
 use Rattle.hub_steps.specs.declared.shown.CastPost.{CastPost}
 
 -- ---- computations in general
@@ -178,17 +178,17 @@ more_than : (n m : ℕ) → n < m → nat_lt n m ≡ true
 more_than n m more = grind (arith, nat_tests)
 
 -- a post whose list is too long
-pub post_long : (core : Core) (refused : Bool) (ports : List EndId) (body : List ℕ) (s : Sender) (may : Bool) → ((h : History) → Shows core h → may ≡ may_post (facts h) s) → may ≡ true → 16 < length ports → ComputesAt core core (post refused ports body s) (Answer outcome.TooManyPorts)
+pub post_long : (core : Core) (refused : Bool) (ports : List EndId) (body : List ℕ) (s : Sender) (may : Bool) → ((h : History) → Shows core h → may ≡ may_post_on_line (facts h) s) → may ≡ true → 16 < length ports → ComputesAt core core (post refused ports body s) (Answer outcome.TooManyPorts)
 post_long core refused ports body s may is some many =
-    asked_then core core (λ f. may_post f s) (post_may refused ports body s) true (Answer outcome.TooManyPorts) (λ h shows. sym some ∙ is h shows)
+    asked_then core core (λ f. may_post_on_line f s) (post_may refused ports body s) true (Answer outcome.TooManyPorts) (λ h shows. sym some ∙ is h shows)
     (subst (λ b. ComputesAt core core (post_count refused ports body s b) (Answer outcome.TooManyPorts)) (sym (more_than 16 (length ports) many)) (given core (Answer outcome.TooManyPorts)))
 
 -- a post that no test refuses before its list is looked at
-pub post_listed : (old new : Core) (refused : Bool) (ports given_ports : List EndId) (body : List ℕ) (s : Sender) (may : Bool) (list kind : Listing) (shown : Shown) → ((h : History) → Shows old h → may ≡ may_post (facts h) s) → may ≡ true → length ports ≤ 16 → given_ports ≡ ports
+pub post_listed : (old new : Core) (refused : Bool) (ports given_ports : List EndId) (body : List ℕ) (s : Sender) (may : Bool) (list kind : Listing) (shown : Shown) → ((h : History) → Shows old h → may ≡ may_post_on_line (facts h) s) → may ≡ true → length ports ≤ 16 → given_ports ≡ ports
     → ((h : History) → Shows old h → list ≡ listing (facts h) s given_ports) → list ≡ kind → ComputesAt old new (post_listing refused ports body s kind) shown → ComputesAt old new (post refused ports body s) shown
 post_listed old new refused ports given_ports body s may list kind shown is some few same lists of_kind did =
     let asked_list = asked_then old new (λ f. listing f s ports) (post_listing refused ports body s) kind shown (λ h shows. sym of_kind ∙ lists h shows ∙ ap (listing (facts h) s) same) did in
-    asked_then old new (λ f. may_post f s) (post_may refused ports body s) true shown (λ h shows. sym some ∙ is h shows)
+    asked_then old new (λ f. may_post_on_line f s) (post_may refused ports body s) true shown (λ h shows. sym some ∙ is h shows)
     (subst (λ b. ComputesAt old new (post_count refused ports body s b) shown) (sym (not_more (length ports) 16 few)) asked_list)
 
 pub doomed : (old new : Core) (refused : Bool) (ports given_ports : List EndId) (body : List ℕ) (s : Sender) → given_ports ≡ ports → ComputesAt old new (close_each refused given_ports) tt → ComputesAt old new (post_listing refused ports body s HoldsTarget) Doomed
@@ -197,12 +197,12 @@ doomed old new refused ports given_ports body s same did =
 
 -- ---- the closing of an end
 
-pub closed_on : (old first second new : Core) (refused : Bool) (e : EndId) (s : Sender) (told left answer : Outcome) → ((h : History) → Shows old h → Some s ≡ sender_of_closing_notice e (facts h)) → ComputesAt old first (tell refused s) told
+pub closed_on : (old first second new : Core) (refused : Bool) (e : EndId) (s : Sender) (told left answer : Outcome) → ((h : History) → Shows old h → Some s ≡ sender_putting_notice e (facts h)) → ComputesAt old first (tell refused s) told
     → ComputesAt first second (step refused (action.Leave s)) left → ComputesAt second new (step refused (action.Close e)) answer → ComputesAt old new (close refused e) (shown_by_closing_outcomes told answer)
 closed_on old first second new refused e s told left answer is a b c =
     let shown : Shown = shown_by_closing_outcomes told answer in
     let last : Outcome → Computation Shown = λ t. step refused (action.Close e) >>= λ k. pure (shown_by_closing_outcomes t k) in
-    asked_then old new (sender_of_closing_notice e) (close_on refused e) (Some s) shown is
+    asked_then old new (sender_putting_notice e) (close_on refused e) (Some s) shown is
     (chained old first new (tell refused s) (λ t. step refused (action.Leave s) >>= λ l. last t) told shown a
     (chained first second new (step refused (action.Leave s)) (λ l. last told) left shown b
     (shown_as second new (step refused (action.Close e)) (shown_by_closing_outcomes told) answer c)))

@@ -16,7 +16,7 @@ use Rattle.hub_core.specs.Made.{is_queue, lines_of, maker_of, peer_of}
 use Rattle.hub_core.specs.Legal.{is_queue_of, takes_memory}
 use Rattle.hub_core.specs.declared.kind.Kind.TheVariants.{Client, Worker}
 use Rattle.hub_core.specs.Taking.{may_close}
-use Rattle.hub_core.specs.Posting.{may_post, listing}
+use Rattle.hub_core.specs.Posting.{may_post_on_line, listing}
 use Rattle.hub_steps.specs.declared.shown.Shown.{Shown}
 use Rattle.hub_steps.specs.declared.shown.Shown.TheVariants as shown
 use Rattle.hub_steps.specs.declared.shown.Shown.TheVariants.{Answer, Moving, Doomed, DoneNoMemory, DoneMoving, Cast}
@@ -101,8 +101,8 @@ enter (suc n) refused s = do
 -- ---- the closing of an end
 
 -- the line on which the closing of a port puts its notice, where a Close would be answered Done; no other end has one
-abbrev pub sender_of_closing_notice : EndId → Facts → Option Sender
-sender_of_closing_notice e f = if may_close f e.0 then sender_of (Port e) f else None
+abbrev pub sender_putting_notice : EndId → Facts → Option Sender
+sender_putting_notice e f = if may_close f e.0 then sender_of (Port e) f else None
 
 -- What follows the last Enter of a closing: inside, the Push of the notice.
 abbrev pub tell_inside : Bool → Sender → Outcome → Computation Outcome
@@ -133,7 +133,7 @@ close_on refused e (Some s) = do
 -- a client's or worker's queue or a broadcast channel, and where the Close would be answered Closed or NotNow, that is the only step.
 abbrev pub close : Bool → EndId → Computation Shown
 close refused e = do
-  line ← ask (sender_of_closing_notice e)
+  line ← ask (sender_putting_notice e)
   close_on refused e line
 
 -- the closing of each, in order, with hops counted anew; it isn't shown
@@ -206,7 +206,7 @@ post_may refused ports body s true = post_count refused ports body s (nat_lt MAX
 -- for another cause than the target; then that it doesn't hold the target, else each listed port is closed.
 abbrev pub post : Bool → List EndId → List ℕ → Sender → Computation Shown
 post refused ports body s = do
-  may ← ask (λ f. may_post f s)
+  may ← ask (λ f. may_post_on_line f s)
   post_may refused ports body s may
 
 -- ---- queues that a step line makes and starts

@@ -72,14 +72,14 @@ fn post_at_destination(
     let line = LineId(0);
     let sender = Sender { end, line };
     let entered = take_core_step(core, Action::Enter(sender), memory_refused)?;
-    let answer = push_if_entered(alloc, core, sender, body, entered, memory_refused)?;
+    let answer = push_body_if_entered(alloc, core, sender, body, entered, memory_refused)?;
     // It leaves whatever it was answered.
     take_core_step(core, Action::Leave(sender), memory_refused)?;
     Ok(answer)
 }
 
 /// Pushes where the poster is inside. Answers what the Push was answered, or else the Enter.
-fn push_if_entered(
+fn push_body_if_entered(
     alloc: Global,
     core: &mut Core,
     sender: Sender,

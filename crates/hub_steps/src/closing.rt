@@ -5,10 +5,13 @@ ghost use Rattle.hub_core.specs.Facts.{facts};
 ghost use Rattle.hub_core.specs.History.{History};
 ghost use Rattle.hub_core.specs.Shows.{Shows};
 ghost use Rattle.hub_steps.specs.Performed.{ComputesAt};
-ghost use Rattle.hub_steps.specs.Unfolding.{close, close_each, close_ports, shown_by_closing_outcomes};
-ghost use Rattle.hub_steps.specs.Unfolding.{sender_of_closing_notice, sweep, tell};
+ghost use Rattle.hub_steps.specs.Unfolding.{close, close_each, close_ports};
+ghost use Rattle.hub_steps.specs.Unfolding.{sender_putting_notice, shown_by_closing_outcomes};
+ghost use Rattle.hub_steps.specs.Unfolding.{sweep, tell};
 
-use crate::entering::{enter_queue_with_hops, take_core_step, take_step_and_return_shown};
+use crate::entering::{
+    enter_queue_or_hop_to_later_one, take_core_step, take_step_and_return_shown,
+};
 use crate::shown::Shown;
 use hub_core::{Action, Core, OutOfMemory, Outcome, Sender};
 use hub_envelope::{EndId, Envelope};
@@ -19,7 +22,7 @@ pub fn close(core: &mut Core, end: EndId, memory_refused: bool) -> Result<Shown,
     ensures { IfOk result (λ shown.
         ComputesAt core.old core.new (close memory_refused end) shown) }
 {
-    let Some(line) = sender_of_closing_notice(core, end) else {
+    let Some(line) = sender_putting_notice(core, end) else {
         return take_step_and_return_shown(core, Action::Close(end), memory_refused);
     };
     let told = enter_and_put_notice(core, line, memory_refused)?;
@@ -30,8 +33,8 @@ pub fn close(core: &mut Core, end: EndId, memory_refused: bool) -> Result<Shown,
 
 /// The line on which the closing of a port puts its notice, where its Close would be answered
 /// `Done` now. No other end has one.
-fn sender_of_closing_notice(core: &Core, end: EndId) -> Option<Sender>
-    ensures { (h : History) → Shows core.now h → result ≡ sender_of_closing_notice end (facts h) }
+fn sender_putting_notice(core: &Core, end: EndId) -> Option<Sender>
+    ensures { (h : History) → Shows core.now h → result ≡ sender_putting_notice end (facts h) }
 {
     if core.may_close(end) {
         core.line_port_posts_on(end)
@@ -49,7 +52,7 @@ fn enter_and_put_notice(
 ) -> Result<Outcome, OutOfMemory>
     ensures { IfOk result (λ told. ComputesAt core.old core.new (tell memory_refused line) told) }
 {
-    match enter_queue_with_hops(core, line, memory_refused)? {
+    match enter_queue_or_hop_to_later_one(core, line, memory_refused)? {
         Outcome::In => take_core_step(core, Action::Notice(line), memory_refused),
         entered => Ok(entered),
     }
@@ -81,7 +84,7 @@ pub fn close_listed_ends(
 }
 
 /// Sweeps an end, and closes each end that the discarded envelopes name, in order.
-pub fn sweep_and_close_ports(
+pub fn sweep_end_and_close_named_ports(
     core: &mut Core,
     end: EndId,
     memory_refused: bool,

@@ -9,12 +9,12 @@ ghost use Rattle.hub_steps.specs.Steps.{steps_from};
 ghost use Rattle.hub_steps.specs.declared.step_line.StepLine.{StepLine as Line};
 
 use crate::read_step_line::read_step_line;
-use crate::run::{HeldBack, run_with_output_held};
+use crate::run::{HeldBack, run_step_lines_holding_output_back};
 use crate::step_line::StepLineError;
 use hub_engine::{
     CountedReader, CountedWriter, Device, Engine, ExitStatus, run_engine, write_input_error,
 };
-use hub_text::split_text_line;
+use hub_text::split_off_first_text_line;
 use std::alloc::Global;
 use std::io::{Read, Write};
 
@@ -36,7 +36,7 @@ pub fn run_steps<R: Read, W: Write>(
 
 /// What `run_steps` writes for step lines is a function of them: two texts that they may be
 /// answered with are equal. The function does nothing; the law is its contract.
-pub fn prove_step_output_unique()
+pub fn prove_step_output_deterministic()
     ensures { OneText }
 {}
 
@@ -55,7 +55,7 @@ impl Engine for StepsEngine {
         input: Vec<u8>,
         writer: &mut CountedWriter<W>,
     ) -> Result<ExitStatus, Device> {
-        let held = match run_with_output_held(alloc, &input) {
+        let held = match run_step_lines_holding_output_back(alloc, &input) {
             Ok(held) => held,
             Err((line, error)) => return write_input_error(
                 alloc,
@@ -95,7 +95,7 @@ fn check_step_lines(alloc: Global, before: usize, text: &[u8]) -> Result<(), (us
     let mut number = before;
     let mut rest = text;
     while !rest.is_empty() {
-        let (bytes, after) = split_text_line(rest);
+        let (bytes, after) = split_off_first_text_line(rest);
         number += 1;
         match read_step_line(alloc, bytes) {
             Ok(line) => {

@@ -14,7 +14,7 @@ use hub_envelope::MAX_HOPS;
 
 /// Enters, and goes on from retired queues, at most `MAX_HOPS` times. Answers the last Enter's
 /// outcome: `Moved` where that queue was retired too.
-pub fn enter_queue_with_hops(
+pub fn enter_queue_or_hop_to_later_one(
     core: &mut Core,
     sender: Sender,
     memory_refused: bool,

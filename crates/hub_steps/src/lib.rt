@@ -17,7 +17,7 @@ mod starting;
 mod step_line;
 mod text;
 
-pub use engine::{prove_step_output_unique, run_steps};
+pub use engine::{prove_step_output_deterministic, run_steps};
 pub use session::{Reply, Session, prove_session_matches_run_steps};
 pub use shown::{CastPost, Shown};
 pub use step_line::{AgentUrl, Command, PosterCommand, PosterName, StepLine, StepLineError};

@@ -28,7 +28,7 @@ impl WorkerLife {
     }
 
     /// The first time that the agent is found ending its life is terminated.
-    fn terminate(&mut self)
+    fn terminate_once(&mut self)
         ensures { Some self.new ≡ ended (Some self.old) }
     {
         if !self.has_ended {
@@ -112,7 +112,7 @@ impl Lives {
             return;
         };
         if let Some(worker) = found {
-            worker.terminate();
+            worker.terminate_once();
         }
     }
 

@@ -10,7 +10,7 @@ ghost use Rattle.hub_steps.specs.Unfolding.{on_line_of, poster_command_takes_mem
 ghost use Rattle.hub_steps.specs.Unfolding.{shown_step, takes_at_most_one_step};
 
 use crate::casting::cast;
-use crate::closing::{close, sweep_and_close_ports};
+use crate::closing::{close, sweep_end_and_close_named_ports};
 use crate::entering::{take_core_step, take_step_and_return_shown};
 use crate::lives::Lives;
 use crate::posting::post;
@@ -103,7 +103,7 @@ fn perform_rarer(
         Command::Loaded(end) => start_if_client_queue(core, end, memory_refused),
         Command::Adopt(end, agent) => adopt(core, end, agent, memory_refused),
         Command::Close(end) => close(core, end, memory_refused),
-        Command::Sweep(end) => sweep_and_close_ports(core, end, memory_refused),
+        Command::Sweep(end) => sweep_end_and_close_named_ports(core, end, memory_refused),
         Command::See(agent) => stop_agent_if_requested(core, lives, agent, memory_refused),
         Command::Cast(end, ports, body) => cast(alloc, core, end, ports, body, memory_refused),
         Command::Event(agent, event) => Ok(lives.apply_event(agent, event)),
@@ -123,7 +123,7 @@ fn perform_poster_command(
     ensures memory { OnErr result (poster_command_takes_memory command ≡ true) }
     ensures still { OnErr result (is_post command ≡ false → StillShows core.old core.new) }
 {
-    let Some(sender) = line_of_poster(core, poster) else {
+    let Some(sender) = sender_line_of_poster(core, poster) else {
         return Ok(Shown::Answer(Outcome::NotNow));
     };
     let action = match command {
@@ -140,17 +140,17 @@ fn perform_poster_command(
 }
 
 /// The line that a poster posts on. `None` where it names nothing.
-fn line_of_poster(core: &Core, poster: PosterName) -> Option<Sender>
+fn sender_line_of_poster(core: &Core, poster: PosterName) -> Option<Sender>
     ensures { (h : History) → Shows core.now h → result ≡ sender_of poster (facts h) }
 {
     match poster {
         PosterName::Port(port) => core.line_port_posts_on(port),
-        PosterName::Line(end, line) => existing_line_of_end(core, end, line),
+        PosterName::Line(end, line) => sender_line_if_end_has_it(core, end, line),
     }
 }
 
 /// A line of a client's or worker's queue, or of a broadcast channel.
-fn existing_line_of_end(core: &Core, end: EndId, line: LineId) -> Option<Sender>
+fn sender_line_if_end_has_it(core: &Core, end: EndId, line: LineId) -> Option<Sender>
     ensures { (h : History) → Shows core.now h
         → result ≡ sender_of (PosterName.Line end line) (facts h) }
 {

@@ -3,13 +3,13 @@
 ghost use Rattle.std.specs.Prelude.{◌≡◌, IfOk, true};
 ghost use Rattle.hub_core.specs.Facts.{facts};
 ghost use Rattle.hub_core.specs.History.{History};
-ghost use Rattle.hub_core.specs.Posting.{listing, may_post};
+ghost use Rattle.hub_core.specs.Posting.{listing, may_post_on_line};
 ghost use Rattle.hub_core.specs.Shows.{Shows};
 ghost use Rattle.hub_steps.specs.Performed.{ComputesAt};
 ghost use Rattle.hub_steps.specs.Unfolding.{post, send};
 
 use crate::closing::close_listed_ends;
-use crate::entering::{enter_queue_with_hops, take_core_step};
+use crate::entering::{enter_queue_or_hop_to_later_one, take_core_step};
 use crate::shown::Shown;
 use hub_core::{Action, Core, Listing, OutOfMemory, Outcome, Sender};
 use hub_envelope::{Body, EndId, Items, MAX_PORTS};
@@ -26,7 +26,7 @@ pub fn post(
     ensures { IfOk result (λ shown.
         ComputesAt core.old core.new (post memory_refused ports body sender) shown) }
 {
-    if !core.may_post(sender) {
+    if !core.may_post_on_line(sender) {
         return Ok(Shown::Answer(Outcome::NotNow));
     }
     let listed = ports.as_slice();
@@ -47,7 +47,7 @@ pub fn post(
 /// them, so that the core is asked about others alone.
 #[inline(always)]
 fn check_port_list(core: &Core, sender: Sender, ports: &[EndId]) -> Listing
-    requires { (h : History) → Shows core.now h → may_post (facts h) sender ≡ true }
+    requires { (h : History) → Shows core.now h → may_post_on_line (facts h) sender ≡ true }
     ensures { (h : History) → Shows core.now h → result ≡ listing (facts h) sender ports.now }
 {
     if ports.is_empty() {
@@ -67,7 +67,7 @@ fn enter_push_and_leave(
     ensures { IfOk result (λ shown.
         ComputesAt core.old core.new (send memory_refused ports body sender) shown) }
 {
-    match enter_queue_with_hops(core, sender, memory_refused)? {
+    match enter_queue_or_hop_to_later_one(core, sender, memory_refused)? {
         Outcome::In => {
             let push = Action::Push(sender, ports, body);
             let answer = take_core_step(core, push, memory_refused)?;

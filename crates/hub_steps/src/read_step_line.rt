@@ -106,10 +106,10 @@ fn command_of(alloc: Global, name: &str, rest: Option<&str>) -> Result<Command, 
 {
     match name {
         "post" => {
-            let (poster, ports, body) = posting_after(alloc, rest)?;
+            let (poster, ports, body) = posting_in_rest(alloc, rest)?;
             Ok(Command::At(poster, PosterCommand::Post(ports, body)))
         }
-        "take" => Ok(Command::Step(Action::Take(end_after(rest)?))),
+        "take" => Ok(Command::Step(Action::Take(end_in_rest(rest)?))),
         _ => match rarer_step_named(name) {
             Some(step) => rarer_command_of(alloc, step, rest),
             None => Err(StepLineError::UnknownStep),
@@ -166,48 +166,48 @@ fn rarer_command_of(
         → has_part (spelled step) ≡ true) }
 {
     match step {
-        RarerStep::Agent => Ok(Command::Agent(agent_origin_in(alloc, one_word(rest)?)?)),
-        RarerStep::Channel => Ok(Command::Step(Action::Channel(agent_after(rest)?))),
-        RarerStep::Client => Ok(Command::Step(Action::Client(agent_after(rest)?))),
-        RarerStep::Worker => Ok(Command::Worker(agent_after(rest)?)),
+        RarerStep::Agent => Ok(Command::Agent(agent_url_in(alloc, one_word(rest)?)?)),
+        RarerStep::Channel => Ok(Command::Step(Action::Channel(agent_in_rest(rest)?))),
+        RarerStep::Client => Ok(Command::Step(Action::Client(agent_in_rest(rest)?))),
+        RarerStep::Worker => Ok(Command::Worker(agent_in_rest(rest)?)),
         RarerStep::Member => {
             let (agent, name) = word_and_rest(rest)?;
             Ok(Command::Member(agent_in(agent)?, channel_name_in(alloc, name)?))
         }
         RarerStep::Line => {
-            let (end, agent) = end_and_agent_after(rest)?;
+            let (end, agent) = end_and_agent_in_rest(rest)?;
             Ok(Command::Step(Action::Line(end, agent)))
         }
-        RarerStep::Back => Ok(Command::At(poster_after(rest)?, PosterCommand::Back)),
-        RarerStep::Enter => Ok(Command::At(poster_after(rest)?, PosterCommand::Enter)),
+        RarerStep::Back => Ok(Command::At(poster_in_rest(rest)?, PosterCommand::Back)),
+        RarerStep::Enter => Ok(Command::At(poster_in_rest(rest)?, PosterCommand::Enter)),
         RarerStep::Push => {
-            let (poster, ports, body) = posting_after(alloc, rest)?;
+            let (poster, ports, body) = posting_in_rest(alloc, rest)?;
             Ok(Command::At(poster, PosterCommand::Push(ports, body)))
         }
-        RarerStep::Leave => Ok(Command::At(poster_after(rest)?, PosterCommand::Leave)),
-        RarerStep::Hop => Ok(Command::At(poster_after(rest)?, PosterCommand::Hop)),
-        RarerStep::Start => Ok(Command::Step(Action::Start(end_after(rest)?))),
-        RarerStep::Loaded => Ok(Command::Loaded(end_after(rest)?)),
-        RarerStep::Look => Ok(Command::Step(Action::Look(end_after(rest)?))),
+        RarerStep::Leave => Ok(Command::At(poster_in_rest(rest)?, PosterCommand::Leave)),
+        RarerStep::Hop => Ok(Command::At(poster_in_rest(rest)?, PosterCommand::Hop)),
+        RarerStep::Start => Ok(Command::Step(Action::Start(end_in_rest(rest)?))),
+        RarerStep::Loaded => Ok(Command::Loaded(end_in_rest(rest)?)),
+        RarerStep::Look => Ok(Command::Step(Action::Look(end_in_rest(rest)?))),
         RarerStep::Hand => {
-            let (end, agent) = end_and_agent_after(rest)?;
+            let (end, agent) = end_and_agent_in_rest(rest)?;
             Ok(Command::Step(Action::Hand(end, agent)))
         }
         RarerStep::Adopt => {
-            let (end, agent) = end_and_agent_after(rest)?;
+            let (end, agent) = end_and_agent_in_rest(rest)?;
             Ok(Command::Adopt(end, agent))
         }
-        RarerStep::Close => Ok(Command::Close(end_after(rest)?)),
-        RarerStep::Sweep => Ok(Command::Sweep(end_after(rest)?)),
+        RarerStep::Close => Ok(Command::Close(end_in_rest(rest)?)),
+        RarerStep::Sweep => Ok(Command::Sweep(end_in_rest(rest)?)),
         RarerStep::Cast => {
             let (end, list, body) = two_words_and_rest(rest)?;
             let end = end_in(end)?;
             let ports = end_list_in(alloc, list)?;
             Ok(Command::Cast(end, ports, Body::read(alloc, body)?))
         }
-        RarerStep::Part => Ok(Command::Step(Action::Part(end_after(rest)?))),
-        RarerStep::Order => Ok(Command::Step(Action::Order(agent_after(rest)?))),
-        RarerStep::See => Ok(Command::See(agent_after(rest)?)),
+        RarerStep::Part => Ok(Command::Step(Action::Part(end_in_rest(rest)?))),
+        RarerStep::Order => Ok(Command::Step(Action::Order(agent_in_rest(rest)?))),
+        RarerStep::See => Ok(Command::See(agent_in_rest(rest)?)),
         RarerStep::Event => {
             let (agent, event) = two_words(rest)?;
             Ok(Command::Event(agent_in(agent)?, event_in(event)?))
@@ -215,7 +215,7 @@ fn rarer_command_of(
     }
 }
 
-fn agent_after(rest: Option<&str>) -> Result<AgentId, StepLineError>
+fn agent_in_rest(rest: Option<&str>) -> Result<AgentId, StepLineError>
     ensures read { IsReadAs StepLineError.OutOfMemory (λ x. x) result
         (words_after (A ∷ []) (option_map (λ x. x.now) rest.entry)) }
     ensures memory { IfErr result (λ e. e ≢ StepLineError.OutOfMemory) }
@@ -223,7 +223,7 @@ fn agent_after(rest: Option<&str>) -> Result<AgentId, StepLineError>
     agent_in(one_word(rest)?)
 }
 
-fn end_after(rest: Option<&str>) -> Result<EndId, StepLineError>
+fn end_in_rest(rest: Option<&str>) -> Result<EndId, StepLineError>
     ensures read { IsReadAs StepLineError.OutOfMemory (λ x. x) result
         (words_after (E ∷ []) (option_map (λ x. x.now) rest.entry)) }
     ensures memory { IfErr result (λ e. e ≢ StepLineError.OutOfMemory) }
@@ -231,7 +231,7 @@ fn end_after(rest: Option<&str>) -> Result<EndId, StepLineError>
     end_in(one_word(rest)?)
 }
 
-fn poster_after(rest: Option<&str>) -> Result<PosterName, StepLineError>
+fn poster_in_rest(rest: Option<&str>) -> Result<PosterName, StepLineError>
     ensures read { IsReadAs StepLineError.OutOfMemory (λ x. x) result
         (words_after (P ∷ []) (option_map (λ x. x.now) rest.entry)) }
     ensures memory { IfErr result (λ e. e ≢ StepLineError.OutOfMemory) }
@@ -239,7 +239,7 @@ fn poster_after(rest: Option<&str>) -> Result<PosterName, StepLineError>
     poster_in(one_word(rest)?)
 }
 
-fn end_and_agent_after(rest: Option<&str>) -> Result<(EndId, AgentId), StepLineError>
+fn end_and_agent_in_rest(rest: Option<&str>) -> Result<(EndId, AgentId), StepLineError>
     ensures read { IsReadAs StepLineError.OutOfMemory (λ x. x) result
         (words_after (E ∷ A ∷ []) (option_map (λ x. x.now) rest.entry)) }
     ensures memory { IfErr result (λ e. e ≢ StepLineError.OutOfMemory) }
@@ -250,7 +250,7 @@ fn end_and_agent_after(rest: Option<&str>) -> Result<(EndId, AgentId), StepLineE
 
 /// What is posted, by whom.
 #[inline(always)]
-fn posting_after(
+fn posting_in_rest(
     alloc: Global,
     rest: Option<&str>,
 ) -> Result<(PosterName, Items<EndId>, Body), StepLineError>
@@ -407,7 +407,7 @@ fn event_in(word: &str) -> Result<Event, StepLineError>
 
 /// The origin of a URL, or why it gives none.
 #[tactic(auto, unfolding(crate::specs::StepLine::url_read))]
-fn agent_origin_in(alloc: Global, word: &str) -> Result<AgentUrl, StepLineError>
+fn agent_url_in(alloc: Global, word: &str) -> Result<AgentUrl, StepLineError>
     ensures { IsReadAs StepLineError.OutOfMemory (λ x. x) result (word_read U word.now) }
 {
     if word == "-" {

@@ -20,7 +20,7 @@ ghost use Rattle.hub_steps.specs.declared.step_line.StepLine.{StepLine as Line};
 use crate::lives::Lives;
 use crate::perform::perform;
 use crate::read_step_line::read_step_line;
-use crate::short_text::{SHORT, write_shown_if_short};
+use crate::short_text::{SHORT, write_shown_if_post_or_short_delivery};
 use crate::shown::Shown;
 use crate::step_line::{StepLine, StepLineError};
 use crate::text::write_shown_outcome_line;
@@ -28,7 +28,7 @@ use hub_core::{Core, OutOfMemory};
 use hub_engine::{
     CountedWriter, Device, ExitStatus, PIECE, write_and_clear_kept, write_out_of_memory,
 };
-use hub_text::split_text_line;
+use hub_text::split_off_first_text_line;
 use std::alloc::Global;
 use std::io::Write;
 
@@ -78,7 +78,7 @@ pub struct HeldBack<'a> {
 /// which a bad text line comes later are never written. It stops where `MAX_HELD` bytes are kept,
 /// and where memory runs out at a step line. An error is that of the first bad text line, by its
 /// number from 1.
-pub fn run_with_output_held<'a>(
+pub fn run_step_lines_holding_output_back<'a>(
     alloc: Global,
     input: &'a [u8],
 ) -> Result<HeldBack<'a>, (usize, StepLineError)>
@@ -91,12 +91,12 @@ pub fn run_with_output_held<'a>(
     let mut number = 0;
     let mut rest = input;
     while !rest.is_empty() && run.kept.len() < MAX_HELD {
-        let (bytes, after) = split_text_line(rest);
+        let (bytes, after) = split_off_first_text_line(rest);
         let line = match read_step_line(alloc, bytes) {
             Ok(line) => line,
             Err(error) => return Err((number + 1, error)),
         };
-        if run.run_and_keep_outcome(alloc, line).is_err() {
+        if run.run_step_line_and_keep_outcome(alloc, line).is_err() {
             return Ok(HeldBack {
                 run,
                 number,
@@ -132,7 +132,11 @@ impl StepRun {
     /// first. An `Err` keeps nothing.
     // It is inlined, since a call copies the step line.
     #[inline(always)]
-    fn run_and_keep_outcome(&mut self, alloc: Global, line: StepLine) -> Result<(), OutOfMemory>
+    fn run_step_line_and_keep_outcome(
+        &mut self,
+        alloc: Global,
+        line: StepLine,
+    ) -> Result<(), OutOfMemory>
         ensures ok { OnOk result ((shown : WhatIsShown)
             × PerformsAt self.old.core self.new.core self.old.lives line shown
             × (self.new.lives ≡ lives_after line.command shown self.old.lives)
@@ -153,7 +157,7 @@ impl StepRun {
         ensures lives { self.new.lives ≡ self.old.lives }
     {
         let mut bytes = [0; SHORT];
-        if let Some(start) = write_shown_if_short(shown, &mut bytes) {
+        if let Some(start) = write_shown_if_post_or_short_delivery(shown, &mut bytes) {
             self.kept.extend_from_slice(&bytes[start..])?;
             return Ok(());
         }
@@ -182,11 +186,11 @@ impl StepRun {
     {
         let mut rest = rest;
         while !rest.is_empty() {
-            let (bytes, after) = split_text_line(rest);
+            let (bytes, after) = split_off_first_text_line(rest);
             let Ok(line) = read_step_line(alloc, bytes) else {
                 return self.finish_output_out_of_memory(writer);
             };
-            if self.run_and_keep_outcome(alloc, line).is_err() {
+            if self.run_step_line_and_keep_outcome(alloc, line).is_err() {
                 return self.finish_output_out_of_memory(writer);
             }
             rest = after;

@@ -20,19 +20,22 @@ const SHORT_BODY: usize = 40;
 // Most outcome lines are these two. Written from the last byte to the first, such a line takes one
 // test for room where a format makes one for each piece.
 #[tactic(auto, unfolding(crate::specs::ShownText::shown_line))]
-pub fn write_shown_if_short(shown: &Shown, line: &mut [u8; SHORT]) -> Option<usize>
+pub fn write_shown_if_post_or_short_delivery(shown: &Shown, line: &mut [u8; SHORT]) -> Option<usize>
     ensures { IfSome result (λ start. (start ≤ 128)
         × (drop start line.new ≡ shown_line shown.now)) }
 {
     match shown {
-        Shown::Answer(outcome) => write_outcome_if_short(outcome, line),
+        Shown::Answer(outcome) => write_outcome_if_post_or_short_delivery(outcome, line),
         _ => None,
     }
 }
 
 /// The same of an outcome.
 #[tactic(auto, unfolding(crate::specs::OutcomeText::outcome_line))]
-fn write_outcome_if_short(outcome: &Outcome, line: &mut [u8; SHORT]) -> Option<usize>
+fn write_outcome_if_post_or_short_delivery(
+    outcome: &Outcome,
+    line: &mut [u8; SHORT],
+) -> Option<usize>
     ensures { IfSome result (λ start. (start ≤ 128)
         × (drop start line.new ≡ outcome_line outcome.now)) }
 {

@@ -145,7 +145,7 @@ fn write_outcome(text: &mut String, outcome: &Outcome) -> Result<(), OutOfMemory
         Outcome::Handed => text.push_str("handed\n"),
         Outcome::Ordered => text.push_str("ordered\n"),
         Outcome::GoingOn => text.push_str("going-on\n"),
-        Outcome::Ending(ends) => write_ending_agent_line(text, ends.as_slice()),
+        Outcome::Ending(ends) => write_ends_of_ending_agent(text, ends.as_slice()),
         // A cast is shown by what its destinations answer, and never by these alone.
         Outcome::Destinations(_) => text.push_str("cast\n"),
         Outcome::Discarded(envelopes) => write_discarded(text, envelopes.as_slice()),
@@ -153,7 +153,7 @@ fn write_outcome(text: &mut String, outcome: &Outcome) -> Result<(), OutOfMemory
 }
 
 /// Writes the line of the ends of an agent that ends.
-fn write_ending_agent_line(text: &mut String, ends: &[EndId]) -> Result<(), OutOfMemory>
+fn write_ends_of_ending_agent(text: &mut String, ends: &[EndId]) -> Result<(), OutOfMemory>
     ensures { OnOk result (string_bytes text.new
         ≡ string_bytes text.old ++ ending_line ends.now) }
 {

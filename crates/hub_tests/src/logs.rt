@@ -2,7 +2,9 @@
 //! tests/rows/check.
 use crate::refused_logs::{Refused, deliveries_text, text_of};
 use hub_envelope::{AgentId, Body, EndId, LineId};
-use hub_trace::{Content, Log, Payload, Posted, is_port_list, is_posted_within_limits, read_logs};
+use hub_trace::{
+    Content, Log, Payload, Posted, is_envelope_name_within_limits, is_port_list, read_logs,
+};
 use std::alloc::Global;
 use std::test::Fail;
 
@@ -21,7 +23,7 @@ fn body(alloc: Global) -> Result<Body, Refused> {
 /// A log that puts a message with ports and a notice, and closes an end.
 fn first(alloc: Global) -> Result<Log, Refused> {
     let ports = [EndId(7), EndId(0), EndId(12)];
-    if !is_posted_within_limits(&POSTED) || !is_port_list(&ports) {
+    if !is_envelope_name_within_limits(&POSTED) || !is_port_list(&ports) {
         return Err(Refused::Wrong);
     }
     let mut log = Log::new(alloc, AgentId(3));
@@ -34,7 +36,7 @@ fn first(alloc: Global) -> Result<Log, Refused> {
 
 /// A log that adopts an end, and gets a message and a notice.
 fn second(alloc: Global) -> Result<Log, Refused> {
-    if !is_posted_within_limits(&POSTED) || !is_port_list(&[]) {
+    if !is_envelope_name_within_limits(&POSTED) || !is_port_list(&[]) {
         return Err(Refused::Wrong);
     }
     let mut log = Log::new(alloc, AgentId(15));

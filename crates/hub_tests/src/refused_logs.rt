@@ -2,8 +2,8 @@
 // allocation is refused.
 use hub_envelope::{AgentId, Body, BodyError, EndId, LineId};
 use hub_trace::{
-    Content, LOG_HEADER, Log, LogError, Payload, Posted, check, delivered_lines, is_port_list,
-    is_posted_within_limits, read_logs,
+    Content, LOG_HEADER, Log, LogError, Payload, Posted, check, deliveries_by_sender_line,
+    is_envelope_name_within_limits, is_port_list, read_logs,
 };
 use std::alloc::{AllocError, AllocFailed, Global};
 use std::fmt;
@@ -77,7 +77,10 @@ fn append(alloc: Global, log: &mut Log, step: u32) -> Result<(), Refused> {
     };
     let ports = [EndId(7), EndId(0)];
     let closed = EndId(100 + step % 100);
-    if !is_posted_within_limits(&posted) || !is_port_list(&ports) || log.has_closed_end(closed) {
+    if !is_envelope_name_within_limits(&posted)
+        || !is_port_list(&ports)
+        || log.has_closed_end(closed)
+    {
         return Err(Refused::Wrong);
     }
     let body = Body::read(alloc, "[1,{\"a\":null,\"b\":[]}]")?;
@@ -128,7 +131,7 @@ const DELIVERIES: &str = "end 4 line 31 0:0 0:1 0:2 0:3\nend 6 line 31 0:0 0:1 0
 /// What was got of each line, a text line for each.
 pub(crate) fn deliveries_text(alloc: Global, logs: &[Log]) -> Result<String, Refused> {
     let mut text = String::new(alloc);
-    for line in &delivered_lines(alloc, logs)? {
+    for line in &deliveries_by_sender_line(alloc, logs)? {
         writeln!(text, "{line}")?;
     }
     Ok(text)

@@ -1,6 +1,6 @@
 //! Scripts, and the text lines that an input is cut into.
 use hub_script::{Script, ScriptError};
-use hub_text::split_text_line;
+use hub_text::split_off_first_text_line;
 use std::test::Fail;
 
 /// Each form of script line once. The ends are the queues 0 and 1, the ports 2 to 5, the member 6.
@@ -45,10 +45,10 @@ fn nothing_is_read_whichever_allocation_is_refused(rt: HostRuntime) -> Result<()
 
 #[test]
 fn cuts_an_input_into_text_lines(rt: HostRuntime) {
-    let (first, rest) = split_text_line(b"take 1\n\nlast");
+    let (first, rest) = split_off_first_text_line(b"take 1\n\nlast");
     assert_eq!(rt; (first, rest), (b"take 1".as_slice(), b"\nlast".as_slice()));
-    let (second, rest) = split_text_line(rest);
+    let (second, rest) = split_off_first_text_line(rest);
     assert_eq!(rt; (second, rest), (b"".as_slice(), b"last".as_slice()));
-    let (third, rest) = split_text_line(rest);
+    let (third, rest) = split_off_first_text_line(rest);
     assert_eq!(rt; (third, rest), (b"last".as_slice(), b"".as_slice()));
 }

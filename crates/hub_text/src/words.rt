@@ -11,7 +11,7 @@ use memchr::memchr;
 
 /// The first text line without its LF, and what comes after that LF. The last LF of an input may be
 /// missing.
-pub fn split_text_line(bytes: &[u8]) -> (&[u8], &[u8])
+pub fn split_off_first_text_line(bytes: &[u8]) -> (&[u8], &[u8])
     requires { 0 < length bytes.now }
     ensures line { text_lines_of bytes.now ≡ result.0.now ∷ text_lines_of result.1.now }
     ensures front { result.0.now ≡ take (length result.0.now) bytes.now }

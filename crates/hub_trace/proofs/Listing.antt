@@ -6,7 +6,7 @@ use Rattle.std.proofs.lemmas.List.{get_or-drop, get_or_default, length-map, map-
 use Rattle.std.proofs.lemmas.List.Concat.{flat_map-append}
 use Rattle.std.proofs.lemmas.List.Elements.{All-drop, All-push, All-weaker, All-from_recursion, filter-append}
 use Rattle.std.proofs.lemmas.List.Quantifiers.{all_pairs_push}
-use Rattle.hub_trace.specs.declared.delivered.DeliveredLine.{DeliveredLine}
+use Rattle.hub_trace.specs.declared.delivered.SenderLineDeliveries.{SenderLineDeliveries}
 use Rattle.hub_trace.specs.declared.received.Incoming.{Incoming}
 use Rattle.hub_trace.specs.Accepted.{is_of}
 use Rattle.hub_trace.specs.Deliveries.{IsEarlierLine, names_of, names_under}
@@ -29,13 +29,13 @@ got_names-append xs ys x y =
     ∙ ap names_of (map-append receipt_of (filter p xs) (filter p ys))
     ∙ map-append (λ r. r.delivery.posted) (map receipt_of (filter p xs)) (map receipt_of (filter p ys))
 
-names_under-push : (x y : ℕ) (lines : List DeliveredLine) (d : DeliveredLine) → names_under x y (lines ++ d ∷ []) ≡ names_under x y lines ++ names_under x y (d ∷ [])
+names_under-push : (x y : ℕ) (lines : List SenderLineDeliveries) (d : SenderLineDeliveries) → names_under x y (lines ++ d ∷ []) ≡ names_under x y lines ++ names_under x y (d ∷ [])
 names_under-push x y lines d =
-    let p = λ (e : DeliveredLine). (e.end.0 == x) && (e.line.0 == y) in
+    let p = λ (e : SenderLineDeliveries). (e.end.0 == x) && (e.line.0 == y) in
     ap (flat_map (λ e. e.names.items)) (filter-append p lines (d ∷ [])) ∙ flat_map-append (λ e. e.names.items) (filter p lines) (filter p (d ∷ []))
 
 -- arrivals of one line, and that line with their names, tell the same
-told_of_line : (front : List Incoming) (d : DeliveredLine) → Each (λ a. is_of d.end.0 d.line.0 a.posted ≡ true) front → d.names.items ≡ names_of (map receipt_of front)
+told_of_line : (front : List Incoming) (d : SenderLineDeliveries) → Each (λ a. is_of d.end.0 d.line.0 a.posted ≡ true) front → d.names.items ≡ names_of (map receipt_of front)
     → (x y : ℕ) → names_under x y (d ∷ []) ≡ names_of (got_among front x y)
 told_of_line front d at names x y =
     by_test (λ b. ((d.end.0 == x) && (d.line.0 == y)) ≡ b → flat_map (λ e. e.names.items) (cond b (d ∷ []) []) ≡ names_of (got_among front x y)) ((d.end.0 == x) && (d.line.0 == y))
@@ -47,7 +47,7 @@ told_of_line front d at names x y =
     refl
 
 -- the front of the rest is one line, and is told
-pub told_more : (lines : List DeliveredLine) (rest front after : List Incoming) (d : DeliveredLine)
+pub told_more : (lines : List SenderLineDeliveries) (rest front after : List Incoming) (d : SenderLineDeliveries)
     → rest ≡ front ++ after → front ≡ filter (λ a. is_of d.end.0 d.line.0 a.posted) rest → d.names.items ≡ names_of (map receipt_of front)
     → (x y : ℕ) → names_under x y (lines ++ d ∷ []) ++ names_of (got_among after x y) ≡ names_under x y lines ++ names_of (got_among rest x y)
 told_more lines rest front after d cut picked names x y =
@@ -72,7 +72,7 @@ line_after a b e l h other = by_test (λ t. (nat_lt e a || ((a == e) && nat_lt l
     (λ _ t. let at = neither_at a b e l h t in let no : true ≡ false = sym at ∙ other in cc) refl
 
 -- the arrival is of a later line
-abbrev pub IsLater : DeliveredLine → Incoming → Type 0
+abbrev pub IsLater : SenderLineDeliveries → Incoming → Type 0
 IsLater d a = IsLineBefore d.end.0 d.line.0 a.posted.end.0 a.posted.line.0
 
 -- of arrivals that rise by line all behind those of the first line are of later lines
@@ -92,19 +92,19 @@ rest_is_later rest front after n first cut dropped picked some is rises k d lt =
     let not_before : is_before first.posted.end.0 first.posted.line.0 a.posted ≡ false = subst (λ (q : Incoming × Incoming). is_before q.0.posted.end.0 q.0.posted.line.0 q.1.posted ≡ false) (λ i. (front_is i, place i)) (rises 0 (n + k) d (omega arith) under) in
     line_after a.posted.end.0 a.posted.line.0 first.posted.end.0 first.posted.line.0 not_before other
 
-pub later_more : (lines : List DeliveredLine) (rest after : List Incoming) (n : ℕ) (d : DeliveredLine) → after ≡ drop n rest
+pub later_more : (lines : List SenderLineDeliveries) (rest after : List Incoming) (n : ℕ) (d : SenderLineDeliveries) → after ≡ drop n rest
     → All (λ e. All (IsLater e) rest) lines → All (IsLater d) after → All (λ e. All (IsLater e) after) (lines ++ d ∷ [])
 later_more lines rest after n d dropped old new =
     All-push (λ e. All (IsLater e) after) lines d
     (All-weaker (λ e. All (IsLater e) rest) (λ e. All (IsLater e) after) (λ e h. subst (All (IsLater e)) (sym dropped) (All-drop (IsLater e) n rest h)) lines old) new
 
 -- the line of the first arrival that is left comes behind those that were told
-pub rising_more : (lines : List DeliveredLine) (rest : List Incoming) (d : DeliveredLine) (first : Incoming) → ((e : DeliveredLine) → IsLater e first → IsEarlierLine e d)
+pub rising_more : (lines : List SenderLineDeliveries) (rest : List Incoming) (d : SenderLineDeliveries) (first : Incoming) → ((e : SenderLineDeliveries) → IsLater e first → IsEarlierLine e d)
     → AllPairs IsEarlierLine lines → All (λ e. All (IsLater e) rest) lines → 0 < length rest → first ≡ get_or rest 0 first → AllPairs IsEarlierLine (lines ++ d ∷ [])
 rising_more lines rest d first same rising later some is =
     all_pairs_push IsEarlierLine lines d rising (λ k e lt. same (get_or lines k e) (subst (IsLater (get_or lines k e)) (sym is) (later k e lt 0 first some)))
 
-pub some_more : (lines : List DeliveredLine) (d : DeliveredLine) (front : List Incoming) → d.names.items ≡ map (λ a. a.posted) front → 0 < length front
+pub some_more : (lines : List SenderLineDeliveries) (d : SenderLineDeliveries) (front : List Incoming) → d.names.items ≡ map (λ a. a.posted) front → 0 < length front
     → All (λ e. e.names.items ≢ []) lines → All (λ e. e.names.items ≢ []) (lines ++ d ∷ [])
 some_more lines d front names some all =
     All-push (λ e. e.names.items ≢ []) lines d all (λ none. let long : length (map (λ a. a.posted) front) ≡ 0 = ap length (sym names ∙ none) in

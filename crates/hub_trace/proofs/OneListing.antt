@@ -3,7 +3,7 @@ use Rattle.std.proofs.Common.{◌≡◌, ◌≢◌, ℕ, suc, ◌<◌, ◌⊎◌
 use Rattle.std.specs.List.{AllPairs, filter, flat_map, AllByRecursion as Each}
 use Rattle.std.proofs.lemmas.Bool.Decides.{nat_tests}
 use Rattle.std.proofs.lemmas.List.Elements.{recursion_from_All}
-use Rattle.hub_trace.specs.declared.delivered.DeliveredLine.{DeliveredLine}
+use Rattle.hub_trace.specs.declared.delivered.SenderLineDeliveries.{SenderLineDeliveries}
 use Rattle.hub_trace.specs.Deliveries.{DeliveriesAreOne, IsEarlierLine, names_under, parts_of}
 use Rattle.hub_trace.specs.Verdict.{IsLineBefore}
 use Rattle.hub_trace.proofs.Cases.{by_test, kept, dropped}
@@ -12,11 +12,11 @@ use Rattle.hub_trace.proofs.Lines.{filter_none}
 use Rattle.hub_trace.proofs.Order.{Each-weaker}
 
 -- each line is before all behind it
-abbrev Rising : List DeliveredLine → Type 0
+abbrev Rising : List SenderLineDeliveries → Type 0
 Rising [] = Unit {0}
 Rising (d ∷ ds) = Each (IsEarlierLine d) ds × Rising ds
 
-Rising-from_pairs : (ds : List DeliveredLine) → AllPairs IsEarlierLine ds → Rising ds
+Rising-from_pairs : (ds : List SenderLineDeliveries) → AllPairs IsEarlierLine ds → Rising ds
 Rising-from_pairs [] h = tt
 Rising-from_pairs (d ∷ ds) h = (
   recursion_from_All (IsEarlierLine d) ds (λ k e lt. h 0 (suc k) e (omega arith) (omega arith)),
@@ -37,29 +37,29 @@ at_itself : (a b : ℕ) → ((a == a) && (b == b)) ≡ true
 at_itself a b = grind (arith, nat_tests)
 
 -- nothing stands under a line before all of them
-under_none : (x y : ℕ) (ds : List DeliveredLine) → Each (λ d. IsLineBefore x y d.end.0 d.line.0) ds → names_under x y ds ≡ []
+under_none : (x y : ℕ) (ds : List SenderLineDeliveries) → Each (λ d. IsLineBefore x y d.end.0 d.line.0) ds → names_under x y ds ≡ []
 under_none x y ds h =
     ap (flat_map (λ d. d.names.items)) (filter_none (λ d. (d.end.0 == x) && (d.line.0 == y)) ds
     (Each-weaker (λ d. IsLineBefore x y d.end.0 d.line.0) (λ d. ((d.end.0 == x) && (d.line.0 == y)) ≡ false) (λ d k. before_other d.end.0 d.line.0 x y k) ds h))
 
 -- under the first line stand its names alone
-under_first : (d : DeliveredLine) (ds : List DeliveredLine) → Each (IsEarlierLine d) ds → names_under d.end.0 d.line.0 (d ∷ ds) ≡ d.names.items
+under_first : (d : SenderLineDeliveries) (ds : List SenderLineDeliveries) → Each (IsEarlierLine d) ds → names_under d.end.0 d.line.0 (d ∷ ds) ≡ d.names.items
 under_first d ds h =
-    let p = λ (e : DeliveredLine). (e.end.0 == d.end.0) && (e.line.0 == d.line.0) in
+    let p = λ (e : SenderLineDeliveries). (e.end.0 == d.end.0) && (e.line.0 == d.line.0) in
     ap (flat_map (λ e. e.names.items)) (kept (p d) d (filter p ds) (at_itself d.end.0 d.line.0))
     ∙ ap (λ l. d.names.items ++ l) (under_none d.end.0 d.line.0 ds h) ∙ append-nil d.names.items
 
 -- no line with names stands before the first of the others
-no_earlier : (d : DeliveredLine) (ds others : List DeliveredLine) → Each (IsEarlierLine d) ds → d.names.items ≢ [] → Each (λ o. IsLineBefore d.end.0 d.line.0 o.end.0 o.line.0) others
+no_earlier : (d : SenderLineDeliveries) (ds others : List SenderLineDeliveries) → Each (IsEarlierLine d) ds → d.names.items ≢ [] → Each (λ o. IsLineBefore d.end.0 d.line.0 o.end.0 o.line.0) others
     → ((x y : ℕ) → names_under x y (d ∷ ds) ≡ names_under x y others) → ⊥
 no_earlier d ds others rising some later same =
     some (sym (under_first d ds rising) ∙ same d.end.0 d.line.0 ∙ under_none d.end.0 d.line.0 others later)
 
 -- behind one first line the same stands
-same_behind : (d e : DeliveredLine) (ds es : List DeliveredLine) → d.end.0 ≡ e.end.0 → d.line.0 ≡ e.line.0 → Each (IsEarlierLine d) ds → Each (IsEarlierLine e) es
+same_behind : (d e : SenderLineDeliveries) (ds es : List SenderLineDeliveries) → d.end.0 ≡ e.end.0 → d.line.0 ≡ e.line.0 → Each (IsEarlierLine d) ds → Each (IsEarlierLine e) es
     → ((x y : ℕ) → names_under x y (d ∷ ds) ≡ names_under x y (e ∷ es)) → (x y : ℕ) → names_under x y ds ≡ names_under x y es
 same_behind d e ds es end line rd re same x y =
-    let p = λ (o : DeliveredLine). (o.end.0 == x) && (o.line.0 == y) in
+    let p = λ (o : SenderLineDeliveries). (o.end.0 == x) && (o.line.0 == y) in
     by_test (λ b. p d ≡ b → names_under x y ds ≡ names_under x y es) (p d)
     (λ _ t. let at = same_line d.end.0 d.line.0 x y t in
     under_none x y ds (subst (λ (q : ℕ × ℕ). Each (λ o. IsLineBefore q.0 q.1 o.end.0 o.line.0) ds) (λ i. (at.0 i, at.1 i)) rd)
@@ -81,7 +81,7 @@ same_end a b c d end = elim (nat_cases b d) [ inl h ↦ inl (inr (end, h)) | inr
 three_ways : (a b c d : ℕ) → ((a < c) ⊎ ((a ≡ c) × (b < d))) ⊎ (((c < a) ⊎ ((c ≡ a) × (d < b))) ⊎ ((a ≡ c) × (b ≡ d)))
 three_ways a b c d = elim (nat_cases a c) [ inl h ↦ inl (inl h) | inr h ↦ elim h [ inl k ↦ inr (inl (inl k)) | inr k ↦ same_end a b c d k ] ]
 
-one_by : (d e : DeliveredLine) (ds es : List DeliveredLine) → Rising (d ∷ ds) → Rising (e ∷ es) → d.names.items ≢ [] → e.names.items ≢ []
+one_by : (d e : SenderLineDeliveries) (ds es : List SenderLineDeliveries) → Rising (d ∷ ds) → Rising (e ∷ es) → d.names.items ≢ [] → e.names.items ≢ []
     → ((x y : ℕ) → names_under x y (d ∷ ds) ≡ names_under x y (e ∷ es)) → (((x y : ℕ) → names_under x y ds ≡ names_under x y es) → map parts_of ds ≡ map parts_of es)
     → IsEarlierLine d e ⊎ (IsEarlierLine e d ⊎ ((d.end.0 ≡ e.end.0) × (d.line.0 ≡ e.line.0))) → map parts_of (d ∷ ds) ≡ map parts_of (e ∷ es)
 one_by d e ds es rd re sd se same behind (inl h) =
@@ -94,7 +94,7 @@ one_by d e ds es rd re sd se same behind (inr (inr h)) =
     (λ i. (record { 0 = h.0 i }, record { 0 = h.1 i }, names i) ∷ rest i)
 
 -- two lists that rise by line, in which no line is without a name, and in which the same stands under each line
-one : (ds es : List DeliveredLine) → Rising ds → Rising es → Each (λ d. d.names.items ≢ []) ds → Each (λ d. d.names.items ≢ []) es
+one : (ds es : List SenderLineDeliveries) → Rising ds → Rising es → Each (λ d. d.names.items ≢ []) ds → Each (λ d. d.names.items ≢ []) es
     → ((x y : ℕ) → names_under x y ds ≡ names_under x y es) → map parts_of ds ≡ map parts_of es
 one [] [] rd re sd se same = refl
 one (d ∷ ds) [] rd re sd se same = absurd (no_earlier d ds [] rd.0 sd.0 tt same)

@@ -7,7 +7,7 @@ ghost use Rattle.hub_trace.specs.Views.{RisesByLine, accepted_in, delivery_of};
 
 use crate::content::Content;
 use crate::log::Log;
-use crate::log_entry::{LogEntry, is_of_earlier_line, is_of_later_line};
+use crate::log_entry::{LogEntry, is_of_earlier_sender_line, is_of_later_sender_line};
 use hub_envelope::{EndId, LineId, OutOfMemory, Posted};
 use std::alloc::Global;
 
@@ -72,7 +72,7 @@ fn add_accepted_of_log<'a>(
 }
 
 /// The accepted envelopes of one line.
-pub(crate) fn accepted_of_line<'s, 'a>(
+pub(crate) fn accepted_envelopes_of_sender_line<'s, 'a>(
     accepted: &'s [AcceptedEnvelope<'a>],
     end: EndId,
     line: LineId,
@@ -80,8 +80,8 @@ pub(crate) fn accepted_of_line<'s, 'a>(
     requires { RisesByLine (λ a. a.posted) accepted.now }
     ensures { result.now ≡ filter (λ a. is_of end.0 line.0 a.posted) accepted.now }
 {
-    let from = accepted.partition_point(|a| is_of_earlier_line(&a.posted, end, line));
+    let from = accepted.partition_point(|a| is_of_earlier_sender_line(&a.posted, end, line));
     let rest = &accepted[from..];
-    let count = rest.partition_point(|a| !is_of_later_line(&a.posted, end, line));
+    let count = rest.partition_point(|a| !is_of_later_sender_line(&a.posted, end, line));
     &rest[..count]
 }

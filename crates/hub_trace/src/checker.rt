@@ -13,10 +13,12 @@ ghost use Rattle.hub_trace.specs.declared.verdict.Verdict.TheVariants.{Clean};
 ghost use Rattle.hub_trace.specs.Views.{RisesByLine, accepted_in, delivery_of, got_among};
 ghost use Rattle.hub_trace.specs.Views.{receipt_of};
 
-use crate::accepted::{AcceptedEnvelope, accepted_of_line, sorted_accepted_envelopes_of_logs};
+use crate::accepted::{
+    AcceptedEnvelope, accepted_envelopes_of_sender_line, sorted_accepted_envelopes_of_logs,
+};
 use crate::log::Log;
 use crate::log_entry::has_same_epoch_and_number;
-use crate::received::{Incoming, all_arrivals_sorted, leading_arrivals_of_line};
+use crate::received::{Incoming, leading_arrivals_of_sender_line, sorted_arrivals_of_all_logs};
 use crate::verdict::{FaultKind, Verdict};
 use hub_envelope::{OutOfMemory, Posted};
 use std::alloc::Global;
@@ -30,7 +32,7 @@ pub fn check(alloc: Global, logs: &[Log]) -> Result<Verdict, OutOfMemory>
         (λ verdict. IsVerdict (accepted logs.now) (got logs.now) verdict) }
 {
     let accepted = sorted_accepted_envelopes_of_logs(alloc, logs)?;
-    let arrivals = all_arrivals_sorted(alloc, logs)?;
+    let arrivals = sorted_arrivals_of_all_logs(alloc, logs)?;
     Ok(first_fault(&accepted, &arrivals))
 }
 
@@ -44,8 +46,8 @@ fn first_fault(accepted: &[AcceptedEnvelope<'_>], arrivals: &[Incoming<'_>]) -> 
     while let Some(first) = rest.first() {
         let end = first.posted.end;
         let line = first.posted.line;
-        let put = accepted_of_line(accepted, end, line);
-        let got = leading_arrivals_of_line(rest, end, line);
+        let put = accepted_envelopes_of_sender_line(accepted, end, line);
+        let got = leading_arrivals_of_sender_line(rest, end, line);
         if let Some((place, kind)) = first_fault_of_sender_line(put, got) {
             return Verdict::Fault {
                 end,
@@ -120,7 +122,7 @@ fn fault_kind_of_arrival(
     if noticed {
         return FaultKind::AfterNotice;
     }
-    if is_name_accepted_at_place(accepted, earlier.len(), &arrival.posted) {
+    if is_name_of_accepted_envelope_at_place(accepted, earlier.len(), &arrival.posted) {
         return FaultKind::Changed;
     }
     if is_name_among_got(earlier, &arrival.posted) {
@@ -133,7 +135,7 @@ fn fault_kind_of_arrival(
 }
 
 /// Whether the accepted envelope at the place has this name.
-fn is_name_accepted_at_place(
+fn is_name_of_accepted_envelope_at_place(
     accepted: &[AcceptedEnvelope<'_>],
     place: usize,
     posted: &Posted,

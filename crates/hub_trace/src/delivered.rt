@@ -7,14 +7,14 @@ ghost use Rattle.hub_trace.specs.Deliveries.{delivered_line_text, DeliveriesAreO
 ghost use Rattle.hub_trace.specs.Views.{RisesByLine, got_among};
 
 use crate::log::Log;
-use crate::received::{Incoming, all_arrivals_sorted, leading_arrivals_of_line};
+use crate::received::{Incoming, leading_arrivals_of_sender_line, sorted_arrivals_of_all_logs};
 use hub_envelope::{EndId, LineId, OutOfMemory, Posted};
 use std::alloc::Global;
 use std::fmt;
 
 /// What was got of one line of an end.
 #[derive(Debug, Drop)]
-pub struct DeliveredLine {
+pub struct SenderLineDeliveries {
     pub end: EndId,
     pub line: LineId,
     /// The names of the envelopes and notices that were got, in the order in which they were got:
@@ -23,7 +23,7 @@ pub struct DeliveredLine {
 }
 
 /// `end E line L EP:N EP:N ..`: the end, the line number, and the epoch and number of each name.
-impl fmt::Display for DeliveredLine {
+impl fmt::Display for SenderLineDeliveries {
     ghost output = { λ d. Some (delivered_line_text d) };
 
     fn fmt<W: fmt::Write>(&self, f: &mut fmt::Formatter<W>) -> fmt::Result {
@@ -45,18 +45,21 @@ impl fmt::Display for DeliveredLine {
 ///
 /// It judges nothing: what was got twice stands twice, and what was got after the end was closed
 /// or after a notice stands too. For n entries it takes a time in the order of n log n.
-pub fn delivered_lines(alloc: Global, logs: &[Log]) -> Result<Vec<DeliveredLine>, OutOfMemory>
+pub fn deliveries_by_sender_line(
+    alloc: Global,
+    logs: &[Log],
+) -> Result<Vec<SenderLineDeliveries>, OutOfMemory>
     ensures { IfOk result (λ lines. AreDeliveries logs.now lines.items) }
 {
-    let arrivals = all_arrivals_sorted(alloc, logs)?;
-    deliveries_by_line(alloc, &arrivals)
+    let arrivals = sorted_arrivals_of_all_logs(alloc, logs)?;
+    group_arrivals_by_sender_line(alloc, &arrivals)
 }
 
 /// The lines of the arrivals.
-fn deliveries_by_line(
+fn group_arrivals_by_sender_line(
     alloc: Global,
     arrivals: &[Incoming<'_>],
-) -> Result<Vec<DeliveredLine>, OutOfMemory>
+) -> Result<Vec<SenderLineDeliveries>, OutOfMemory>
     requires { RisesByLine (λ a. a.posted) arrivals.now }
     ensures rising { IfOk result (λ lines. AllPairs IsEarlierLine lines.items) }
     ensures none_empty { IfOk result (λ lines. All (λ d. d.names.items ≢ []) lines.items) }
@@ -68,23 +71,26 @@ fn deliveries_by_line(
     while let Some(first) = rest.first() {
         let end = first.posted.end;
         let line = first.posted.line;
-        let got = leading_arrivals_of_line(rest, end, line);
-        let names = names_of_arrivals(alloc, got)?;
-        lines.push(DeliveredLine { end, line, names })?;
+        let got = leading_arrivals_of_sender_line(rest, end, line);
+        let names = envelope_names_of_arrivals(alloc, got)?;
+        lines.push(SenderLineDeliveries { end, line, names })?;
         rest = &rest[got.len()..];
     }
     Ok(lines)
 }
 
 /// The names of the arrivals.
-fn names_of_arrivals(alloc: Global, arrivals: &[Incoming<'_>]) -> Result<Vec<Posted>, OutOfMemory>
+fn envelope_names_of_arrivals(
+    alloc: Global,
+    arrivals: &[Incoming<'_>],
+) -> Result<Vec<Posted>, OutOfMemory>
     ensures { IfOk result (λ names. names.items ≡ map (λ a. a.posted) arrivals.now) }
 {
     Ok(arrivals.iter().map(|a| a.posted).collect(alloc)?)
 }
 
-/// The law of `delivered_lines`: of the same logs it lists the same lines, with the same names in the
-/// same order. The function does nothing; the law is its contract.
-pub fn prove_delivered_lines_unique()
+/// The law of `deliveries_by_sender_line`: of the same logs it lists the same lines, with the same
+/// names in the same order. The function does nothing; the law is its contract.
+pub fn prove_deliveries_deterministic()
     ensures { DeliveriesAreOne }
 {}

@@ -32,10 +32,10 @@ pub fn is_port_list(ends: &[EndId]) -> bool
     ensures test { result ≡ is_port_list ends.now }
     ensures list { IsTrue result ↔ IsPortList ends.now }
 {
-    ends.len() <= MAX_PORTS && are_ends_within_limit(ends) && are_distinct(ends)
+    ends.len() <= MAX_PORTS && is_each_end_number_within_limit(ends) && are_distinct(ends)
 }
 
-fn are_ends_within_limit(ends: &[EndId]) -> bool
+fn is_each_end_number_within_limit(ends: &[EndId]) -> bool
     ensures { result ≡ are_ends ends.now }
 {
     ends.iter().all(|end| u64::from(end.0) <= MAX_END)

@@ -62,7 +62,7 @@ impl fmt::Display for Delivery {
 }
 
 /// Whether a log may have the name.
-pub fn is_posted_within_limits(posted: &Posted) -> bool
+pub fn is_envelope_name_within_limits(posted: &Posted) -> bool
     ensures { IsTrue result ↔ IsPostedWithin Third posted.now }
 {
     u64::from(posted.end.0) <= MAX_END
@@ -79,14 +79,14 @@ pub(crate) fn has_same_epoch_and_number(posted: &Posted, other: &Posted) -> bool
 }
 
 /// Whether the name is of an earlier line than the given one: by end, then by line.
-pub(crate) fn is_of_earlier_line(posted: &Posted, end: EndId, line: LineId) -> bool
+pub(crate) fn is_of_earlier_sender_line(posted: &Posted, end: EndId, line: LineId) -> bool
     ensures { result ≡ is_before end.0 line.0 posted.now }
 {
     posted.end.0 < end.0 || (posted.end.0 == end.0 && posted.line.0 < line.0)
 }
 
 /// Whether the name is of a later line than the given one.
-pub(crate) fn is_of_later_line(posted: &Posted, end: EndId, line: LineId) -> bool
+pub(crate) fn is_of_later_sender_line(posted: &Posted, end: EndId, line: LineId) -> bool
     ensures { result ≡ is_after end.0 line.0 posted.now }
 {
     end.0 < posted.end.0 || (posted.end.0 == end.0 && line.0 < posted.line.0)

@@ -127,7 +127,7 @@ fn posted_in(version: LogVersion, end: &str, line: &str, name: &str) -> Result<P
     ensures within { IfOk result (λ l. IsPostedWithin version l) }
     ensures memory { IfErr result (λ e. e ≢ LogError.OutOfMemory) }
 {
-    let (epoch, number) = name_parts(name)?;
+    let (epoch, number) = split_epoch_and_number(name)?;
     Ok(Posted {
         end: end_in(end)?,
         line: line_id_in(version, line)?,
@@ -184,7 +184,7 @@ fn word_and_rest(text: &str) -> Result<(&str, &str), LogError>
 }
 
 /// The parts of `EP:N`.
-fn name_parts(name: &str) -> Result<(&str, &str), LogError>
+fn split_epoch_and_number(name: &str) -> Result<(&str, &str), LogError>
     ensures says { IsReadAs LogError.OutOfMemory (λ x. (x.0.now, x.1.now)) result
         (parts_in 58 name.now) }
     ensures memory { IfErr result (λ e. e ≢ LogError.OutOfMemory) }

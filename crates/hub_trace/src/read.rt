@@ -22,7 +22,7 @@ use crate::log_entry::LogEntry;
 use crate::log_line::{LogLine, read_log_line};
 use crate::log_version::LogVersion;
 use hub_envelope::OutOfMemory;
-use hub_text::split_text_line;
+use hub_text::split_off_first_text_line;
 use std::alloc::Global;
 use std::collections::BTreeSet;
 
@@ -58,14 +58,14 @@ pub fn read_logs(alloc: Global, bytes: &[u8]) -> Result<Vec<Log>, (usize, LogErr
     if bytes.is_empty() {
         return Ok(logs);
     }
-    let (header, mut rest) = split_text_line(bytes);
+    let (header, mut rest) = split_off_first_text_line(bytes);
     let Some(version) = LogVersion::of_header(header) else {
         return Err((1, LogError::BadHeader));
     };
     let mut closed = BTreeSet::new(alloc);
     let mut number = 1;
     while !rest.is_empty() {
-        let (line, after) = split_text_line(rest);
+        let (line, after) = split_off_first_text_line(rest);
         if line == LOGS_END.as_bytes() {
             return Ok(logs);
         }

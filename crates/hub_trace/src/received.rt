@@ -11,7 +11,7 @@ ghost use Rattle.hub_trace.specs.Views.{receipts_in};
 
 use crate::content::Content;
 use crate::log::Log;
-use crate::log_entry::{Delivery, LogEntry, is_of_later_line};
+use crate::log_entry::{Delivery, LogEntry, is_of_later_sender_line};
 use hub_envelope::{EndId, LineId, OutOfMemory, Posted};
 use std::alloc::Global;
 use std::collections::BTreeMap;
@@ -36,7 +36,7 @@ pub(crate) struct Incoming<'a> {
 
 /// What was got, by end and line, and within a line by stretch. What was got in equal stretches
 /// stands in the order of the logs.
-pub(crate) fn all_arrivals_sorted(
+pub(crate) fn sorted_arrivals_of_all_logs(
     alloc: Global,
     logs: &[Log],
 ) -> Result<Vec<Incoming<'_>>, OutOfMemory>
@@ -44,7 +44,7 @@ pub(crate) fn all_arrivals_sorted(
         got_among v.items end line ≡ got logs.now end line) }
     ensures order { IfOk result (λ v. RisesByLine (λ a. a.posted) v.items) }
 {
-    let happenings = all_happenings_sorted(alloc, logs)?;
+    let happenings = sorted_happenings_of_all_logs(alloc, logs)?;
     let mut arrivals = arrivals_among_happenings(alloc, &happenings)?;
     arrivals.sort_by_key(|a| (a.posted.end.0, a.posted.line.0))?;
     Ok(arrivals)
@@ -52,7 +52,10 @@ pub(crate) fn all_arrivals_sorted(
 
 /// What happened at all ends, by end and stretch. What happened in equal stretches stands in the
 /// order of the logs.
-fn all_happenings_sorted(alloc: Global, logs: &[Log]) -> Result<Vec<Happening<'_>>, OutOfMemory>
+fn sorted_happenings_of_all_logs(
+    alloc: Global,
+    logs: &[Log],
+) -> Result<Vec<Happening<'_>>, OutOfMemory>
     ensures ends { IfOk result (λ v. (end : ℕ) →
         end_events_in v.items end ≡ stretches_joined logs.now end) }
     ensures order { IfOk result (λ v. RisesByEnd v.items) }
@@ -145,7 +148,7 @@ fn arrivals_among_happenings<'a>(
 }
 
 /// The arrivals at the front that are of this line. The first arrival is.
-pub(crate) fn leading_arrivals_of_line<'s, 'a>(
+pub(crate) fn leading_arrivals_of_sender_line<'s, 'a>(
     arrivals: &'s [Incoming<'a>],
     end: EndId,
     line: LineId,
@@ -159,6 +162,6 @@ pub(crate) fn leading_arrivals_of_line<'s, 'a>(
     ensures front { arrivals.now ≡ result.now ++ drop (length result.now) arrivals.now }
     ensures line { result.now ≡ filter (λ a. is_of end.0 line.0 a.posted) arrivals.now }
 {
-    let count = arrivals.partition_point(|a| !is_of_later_line(&a.posted, end, line));
+    let count = arrivals.partition_point(|a| !is_of_later_sender_line(&a.posted, end, line));
     &arrivals[..count]
 }

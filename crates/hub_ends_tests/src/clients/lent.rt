@@ -42,7 +42,9 @@ fn lends_lines<L: Lends<QueueList>, R: Wait>(
     let are_lent = lends_these(rt, lender, MAX_LINES - 1);
     let last = line_to(rt, lender, 0).ok()?;
     let is_full = matches!(line_to(rt, lender, 0), Err(DirectoryError::NoLine));
-    let is_back = lender.lend(rt, |listing| listing.give_back(last)).is_ok();
+    let is_back = lender
+        .lend(rt, |listing| listing.give_back_poster(last))
+        .is_ok();
     let again = line_to(rt, lender, 0).ok()?;
     let is_same = usize::from(again.name().line.0) == MAX_LINES - 1;
     drop(again);

@@ -5,7 +5,7 @@ use hub_depot::{Depot, Kept};
 use hub_envelope::{AgentId, EndId, Envelope, Ports};
 use hub_locked::Lends;
 use hub_ports::{
-    ClosingStep, Closings, Hub, Noticed, Parcel, Port, Spent, close_and_sweep_flight_ports,
+    ClosingStep, Closings, Hub, Noticed, Parcel, Port, Spent, close_and_sweep_all_flight_ports,
     close_port_telling_each_step, send_with_ports, take_ports_from_flight,
 };
 use hub_queue::{Ends, Head, Mailbox, Onward, Point, Poster, Swept, Taker, Took};
@@ -95,7 +95,7 @@ fn closes<R: Wait>(rt: &R, alloc: Global, flight: &mut Kept<Port>) -> Option<boo
     let (near, far) = entangled(alloc, &mut ends)?;
     flight.put(far).ok()?;
     let mut emptied = Vec::<Emptied>::new(alloc);
-    let is_closed = close_and_sweep_flight_ports(
+    let is_closed = close_and_sweep_all_flight_ports(
         rt,
         alloc,
         &yard,

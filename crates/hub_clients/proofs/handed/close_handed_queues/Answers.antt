@@ -8,5 +8,5 @@ loop-handed-init g c = none_closed (g.H.Hears.told c.args.heard.now) _ c.args.wa
 
 pub loop-handed-preserved : goal.loop-handed-preserved
 loop-handed-preserved g c =
-    subst (λ (w : Waiting). IfSome (g.H.Hears.told c.args.heard.now) (λ before. AreToldClosed c.args.waiting.now w before (g.H.Hears.told c.tell.new.self))) (sym c.in-Some.ensures.rest)
-    (one_closed (g.H.Hears.told c.args.heard.now) (g.H.Hears.told c.loop-handed.heard) _ c.args.waiting.now c.loop-handed.waiting c.in-Some.handed c.close.result c.loop-handed.invariant c.tell.ensures c.in-Some.ensures.kept c.close.ensures)
+    subst (λ (w : Waiting). IfSome (g.H.Hears.told c.args.heard.now) (λ before. AreToldClosed c.args.waiting.now w before (g.H.Hears.told c.tell_done.new.self))) (sym c.in-Some.ensures.rest)
+    (one_closed (g.H.Hears.told c.args.heard.now) (g.H.Hears.told c.loop-handed.heard) _ c.args.waiting.now c.loop-handed.waiting c.in-Some.handed c.close.result c.loop-handed.invariant c.tell_done.ensures c.in-Some.ensures.kept c.close.ensures)

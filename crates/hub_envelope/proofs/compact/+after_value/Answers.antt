@@ -34,7 +34,7 @@ after_members-loop-key-preserved t c = λ after more.
     let before : Option (List ℕ) = option_map (λ k. k.now) c.loop-key.before in
     let left = c.in_ok-mark.ensures.cases.0 ∙ ap (λ b. b ∷ rest) c.in-44.is in
     let front = subst (λ l. IsFront c.args.levels value l) left c.in_ok-after_value.ensures in
-    c.loop-key.invariant after (one_more_member c.args.levels before c.loop-key.rest.now c.in_ok-key.key.now value rest after c.in_ok-key.ensures front (c.may_key_follow.ensures c.if-not-may_key_follow.false) more)
+    c.loop-key.invariant after (one_more_member c.args.levels before c.loop-key.rest.now c.in_ok-key.key.now value rest after c.in_ok-key.ensures front (c.is_key_in_order.ensures c.if-not-is_key_in_order.false) more)
 
 pub after_members-returns-in-125 : goal.after_members-returns-in-125
 after_members-returns-in-125 t c =
@@ -44,7 +44,7 @@ after_members-returns-in-125 t c =
     let left = c.in_ok-mark.ensures.cases.0 ∙ ap (λ b. b ∷ rest) c.in-125.is in
     let front = subst (λ l. IsFront c.args.levels value l) left c.in_ok-after_value.ensures in
     front-members c.args.levels c.args.text.now rest
-    (c.loop-key.invariant rest (last_member c.args.levels before c.loop-key.rest.now c.in_ok-key.key.now value rest c.in_ok-key.ensures front (c.may_key_follow.ensures c.if-not-may_key_follow.false)))
+    (c.loop-key.invariant rest (last_member c.args.levels before c.loop-key.rest.now c.in_ok-key.key.now value rest c.in_ok-key.ensures front (c.is_key_in_order.ensures c.if-not-is_key_in_order.false)))
 
 pub after_value-returns-in-110 : goal.after_value-returns-in-110
 after_value-returns-in-110 t c =

@@ -9,4 +9,4 @@ use Rattle.hub_modes.proofs.run.run_script.Goals as goal
 pub returns-in-Ok : goal.returns-in-Ok
 returns-in-Ok g c =
     let kept = subst (AreLogsFor c.args.script.now) (sym c.deref.ensures.value) (logs_of c.args.script.now _ _ c.in-Ok.ensures) in
-    ends_weaker _ _ (SaysRun c.args.script.now) _ _ _ (run_says c.args.script.now c.deref.result.now kept) c.write_run.ensures
+    ends_weaker _ _ (SaysRun c.args.script.now) _ _ _ (run_says c.args.script.now c.deref.result.now kept) c.write_logs_and_verdict.ensures

@@ -16,5 +16,5 @@ returns-in-Object c =
     let p = has_name c.args.keyword in
     let ms = members_view c.in-Object.fields.items in
     let seen : value_view c.args.line.now ≡ object ms = ap (λ (v : Value Global). value_view v) c.in-Object.is ∙ view-Object c.in-Object.fields in
-    let shown : c.are_fields_of.result ≡ list_all p (json_names ms) = rw (← c.deref.ensures.value) c.are_fields_of.ensures in
+    let shown : c.are_all_fields_of_keyword.result ≡ list_all p (json_names ms) = rw (← c.deref.ensures.value) c.are_all_fields_of_keyword.ensures in
     shown ∙ sym (all_names p ms) ∙ ap (λ (j : Json). has_only c.args.keyword (data_of j)) (sym seen)

@@ -13,14 +13,14 @@ returns-in-Err-clause-err c =
     let front = c.loop-rest.invariant.so_far in
     elim c.in-Err.ensures.read [
       | inl h ↦ inl h
-      | inr h ↦ inr (is_bad front.0 (c.loop-rest.number + 1) (text_lines_of c.loop-rest.rest.now) (text_lines_of c.split_text_line.result.1.now) c.split_text_line.result.0.now c.in-Err.error (steps_from (c.args.before + 1) (text_lines_of c.args.text.now)) c.split_text_line.ensures.line h front.1)
+      | inr h ↦ inr (is_bad front.0 (c.loop-rest.number + 1) (text_lines_of c.loop-rest.rest.now) (text_lines_of c.split_off_first_text_line.result.1.now) c.split_off_first_text_line.result.0.now c.in-Err.error (steps_from (c.args.before + 1) (text_lines_of c.args.text.now)) c.split_off_first_text_line.ensures.line h front.1)
     ]
 
 pub loop-rest-preserved : goal.loop-rest-preserved
 loop-rest-preserved c =
     let front = c.loop-rest.invariant.so_far in
     record {
-      so_far = (front.0 ++ c.in-Ok.line ∷ [], goes_on front.0 (c.loop-rest.number + 1) (text_lines_of c.loop-rest.rest.now) (text_lines_of c.split_text_line.result.1.now) c.split_text_line.result.0.now c.in-Ok.line (steps_from (c.args.before + 1) (text_lines_of c.args.text.now)) c.split_text_line.ensures.line c.in-Ok.ensures.read front.1);
+      so_far = (front.0 ++ c.in-Ok.line ∷ [], goes_on front.0 (c.loop-rest.number + 1) (text_lines_of c.loop-rest.rest.now) (text_lines_of c.split_off_first_text_line.result.1.now) c.split_off_first_text_line.result.0.now c.in-Ok.line (steps_from (c.args.before + 1) (text_lines_of c.args.text.now)) c.split_off_first_text_line.ensures.line c.in-Ok.ensures.read front.1);
       room = omega arith;
     }
 

@@ -16,5 +16,5 @@ returns-in-Ok g c =
 pub returns : goal.returns
 returns g c =
     let unread = subst (λ bytes. (c.in-Err.error ≡ log.OutOfMemory) ⊎ (logs_of bytes ≡ Err (c.in-Err.line, c.in-Err.error))) c.deref.ensures.value c.in-Err.ensures.reads in
-    let said = subst (λ name. EndsOutput g.W.Write.contents (SaysUnread c.in-Err.line name) c.args.writer.now c.write_input_error.new.writer c.write_input_error.result) c.printed_kind.ensures c.write_input_error.ensures in
+    let said = subst (λ name. EndsOutput g.W.Write.contents (SaysUnread c.in-Err.line name) c.args.writer.now c.write_input_error.new.writer c.write_input_error.result) c.printed_kind_of_log_error.ensures c.write_input_error.ensures in
     ends_weaker _ _ (IsCheckOutput c.args.input.items) _ _ _ (unread_logs c.args.input.items c.in-Err.line c.in-Err.error unread) said

@@ -26,7 +26,7 @@ pub returns-in-Part : goal.returns-in-Part
 returns-in-Part c = told c.args.step (action.Part c.in-Part.end) _ _ _ c.in-Part.is (part_took c.in-Part.end c.args.step.memory_refused _ _ _ c.leave_roster.ensures.0 c.leave_roster.ensures.1 c.leave_roster.ensures.2)
 
 pub returns-in-Leave : goal.returns-in-Leave
-returns-in-Leave c = told c.args.step (action.Leave c.in-Leave.sender) _ _ _ c.in-Leave.is (took_where _ _ c.args.self.now _ _ c.leave_queue.ensures.1 (λ f s. c.leave_queue.ensures.0 ∙ ap (λ g. leave_answer g c.in-Leave.sender) (seen_is s)) (λ f. leave_changes c.in-Leave.sender _))
+returns-in-Leave c = told c.args.step (action.Leave c.in-Leave.sender) _ _ _ c.in-Leave.is (took_where _ _ c.args.self.now _ _ c.let_poster_leave_queue.ensures.1 (λ f s. c.let_poster_leave_queue.ensures.0 ∙ ap (λ g. leave_answer g c.in-Leave.sender) (seen_is s)) (λ f. leave_changes c.in-Leave.sender _))
 
 pub returns-in-Channel : goal.returns-in-Channel
 returns-in-Channel c = told_or c.args.step (action.Channel c.in-Channel.agent) _ _ _ c.in-Channel.is refl c.make_channel.ensures (same_content _ _) (λ o p. took_by _ _ c.args.self.now _ _ p.1 refl (λ f s. p.0 ∙ ap (λ g. channel_answer g c.in-Channel.agent c.args.step.memory_refused) (seen_is s)) (λ f. channel_changes c.in-Channel.agent _))
@@ -50,7 +50,7 @@ pub returns-in-Start : goal.returns-in-Start
 returns-in-Start c = told c.args.step (action.Start c.in-Start.end) _ _ _ c.in-Start.is (took_by _ _ c.args.self.now _ _ c.start.ensures.1 refl (λ f s. c.start.ensures.0 ∙ ap (λ g. start_answer g c.in-Start.end) (seen_is s)) (λ f. start_changes c.in-Start.end _))
 
 pub returns-in-Look : goal.returns-in-Look
-returns-in-Look c = told c.args.step (action.Look c.in-Look.end) _ _ _ c.in-Look.is (took_by _ _ c.args.self.now _ _ c.mark_next_queue_if_clear.ensures.1 refl (λ f s. c.mark_next_queue_if_clear.ensures.0 ∙ look_fits c.in-Look.end s) (λ f. look_changes c.in-Look.end _))
+returns-in-Look c = told c.args.step (action.Look c.in-Look.end) _ _ _ c.in-Look.is (took_by _ _ c.args.self.now _ _ c.mark_queue_clear_if_free_of_posters.ensures.1 refl (λ f s. c.mark_queue_clear_if_free_of_posters.ensures.0 ∙ look_fits c.in-Look.end s) (λ f. look_changes c.in-Look.end _))
 
 pub returns-in-Order : goal.returns-in-Order
 returns-in-Order c = told c.args.step (action.Order c.in-Order.agent) _ _ _ c.in-Order.is (took_by _ _ c.args.self.now _ _ c.request_agent_stop.ensures.1 refl (λ f s. c.request_agent_stop.ensures.0 ∙ ap (λ g. order_answer g c.in-Order.agent) (seen_is s)) (λ f. order_changes c.in-Order.agent _))
@@ -68,7 +68,7 @@ pub returns-in-Adopt : goal.returns-in-Adopt
 returns-in-Adopt c = told_or c.args.step (action.Adopt c.in-Adopt.end c.in-Adopt.agent) _ _ _ c.in-Adopt.is refl c.adopt.ensures (same_content _ _) (λ o p. took_by _ _ c.args.self.now _ _ p.1 refl (λ f s. p.0 ∙ ap (λ g. adopt_answer g c.in-Adopt.end c.in-Adopt.agent c.args.step.memory_refused) (seen_is s)) (λ f. adopt_changes c.in-Adopt.end c.in-Adopt.agent _))
 
 pub returns-in-Push : goal.returns-in-Push
-returns-in-Push c = told_or c.args.step (action.Push c.in-Push.sender c.in-Push.ports c.in-Push.body) _ _ _ c.in-Push.is refl c.push.ensures (same_content _ _) (λ o p. took_by _ _ c.args.self.now _ _ p.1 refl (λ f s. p.0 ∙ push_fits c.in-Push.sender c.in-Push.ports c.in-Push.body _ s) (λ f. push_changes c.in-Push.sender c.in-Push.ports c.in-Push.body _))
+returns-in-Push c = told_or c.args.step (action.Push c.in-Push.sender c.in-Push.ports c.in-Push.body) _ _ _ c.in-Push.is refl c.check_and_push_message.ensures (same_content _ _) (λ o p. took_by _ _ c.args.self.now _ _ p.1 refl (λ f s. p.0 ∙ push_fits c.in-Push.sender c.in-Push.ports c.in-Push.body _ s) (λ f. push_changes c.in-Push.sender c.in-Push.ports c.in-Push.body _))
 
 pub returns-in-Notice : goal.returns-in-Notice
 returns-in-Notice c = told_or c.args.step (action.Notice c.in-Notice.sender) _ _ _ c.in-Notice.is refl c.put_notice.ensures (same_content _ _) (λ o p. took_by _ _ c.args.self.now _ _ p.1 refl (λ f s. p.0 ∙ notice_fits c.in-Notice.sender _ s) (λ f. notice_changes c.in-Notice.sender _))

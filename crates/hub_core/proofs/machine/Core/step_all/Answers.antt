@@ -13,7 +13,7 @@ loop-step-preserved c =
     ap (zip (c.loop-step.yielded ++ c.in-Some.step ∷ [])) items ∙ zip_one c.loop-step.yielded c.loop-step.outcomes.items c.in-Some.step c.in_ok-outcome.outcome c.loop-step.invariant.each in
     record {
       each = ap length items ∙ length-append c.loop-step.outcomes.items (c.in_ok-outcome.outcome ∷ []) ∙ ap (λ n. n + 1) c.loop-step.invariant.each ∙ sym (length-append c.loop-step.yielded (c.in-Some.step ∷ []));
-      shows = subst (Shows c.step_any.new.self) (sym longer) both.1;
+      shows = subst (Shows c.step_not_inlined.new.self) (sym longer) both.1;
     }
 
 pub loop-step-init : goal.loop-step-init

@@ -20,7 +20,7 @@ invariant_of-self-in-Some c =
     let old = c.args.self.now in
     record {
       room = omega (arith, old.room, c.reserve.ensures.capacity);
-      reached = room-grown old.held c.reserve.new.self old.ready c.reserve-in-Some.new.self (λ key. ap (λ (s : Slab Held). get s key) c.reserve.ensures.rest_kept) c.reserve-in-Some.ensures.marks c.reserve-in-Some.ensures.listed old.reached;
+      reached = room-grown old.held c.reserve.new.self old.ready c.reserve_for_end.new.self (λ key. ap (λ (s : Slab Held). get s key) c.reserve.ensures.rest_kept) c.reserve_for_end.ensures.marks c.reserve_for_end.ensures.listed old.reached;
     }
 
 pub invariant_of-self-in-None : goal.invariant_of-self-in-None
@@ -34,7 +34,7 @@ invariant_of-self-in-None c =
 
 pub returns-in-Some-clause-bit : goal.returns-in-Some-clause-bit
 returns-in-Some-clause-bit c =
-    subst (λ key. OnOk c.reserve-in-Some.result (HasBit c.reserve-in-Some.new.self.marks key)) c.vacant_key-key.ensures.value c.reserve-in-Some.ensures.ok
+    subst (λ key. OnOk c.reserve_for_end.result (HasBit c.reserve_for_end.new.self.marks key)) c.vacant_key-key.ensures.value c.reserve_for_end.ensures.ok
 
 pub returns-in-None-clause-bit : goal.returns-in-None-clause-bit
 returns-in-None-clause-bit c =
@@ -48,7 +48,7 @@ returns-in_err-reserve-clause-marks c =
 pub returns-in-Some-clause-marks : goal.returns-in-Some-clause-marks
 returns-in-Some-clause-marks c =
     let old = c.args.self.now in
-    record { marked = marked-as old.held c.reserve.new.self old.ready c.reserve-in-Some.new.self (λ key. ap (λ (s : Slab Held). get s key) c.reserve.ensures.rest_kept) c.reserve-in-Some.ensures.marks.1; next = refl }
+    record { marked = marked-as old.held c.reserve.new.self old.ready c.reserve_for_end.new.self (λ key. ap (λ (s : Slab Held). get s key) c.reserve.ensures.rest_kept) c.reserve_for_end.ensures.marks.1; next = refl }
 
 pub returns-in-None-clause-marks : goal.returns-in-None-clause-marks
 returns-in-None-clause-marks c =

@@ -9,7 +9,7 @@ pub invariant_of-self-lent : goal.invariant_of-self-lent
 invariant_of-self-lent c = λ result.
     let old = c.args.self.now in
     let some : IsSome (get old.held c.args.key) = search rules in
-    let q : Ready = record { marks = c.set.new.self; listed = old.ready.listed } in (
-      λ w. (old.room, (lent old.held old.ready q c.args.key w some refl c.set.ensures.others c.set.ensures.set old.reached, tt)),
-      (old.room, (all-move old.held old.ready q (moves-set old.ready q c.args.key refl c.set.ensures.others c.set.ensures.set) old.reached, tt)),
+    let q : Ready = record { marks = c.mark_key.new.self; listed = old.ready.listed } in (
+      λ w. (old.room, (lent old.held old.ready q c.args.key w some refl c.mark_key.ensures.others c.mark_key.ensures.set old.reached, tt)),
+      (old.room, (all-move old.held old.ready q (moves-set old.ready q c.args.key refl c.mark_key.ensures.others c.mark_key.ensures.set) old.reached, tt)),
     )

@@ -17,35 +17,35 @@ keys-preserved g c =
     let kept = c.keys.invariant in
     let first = c.in-Some.ensures.some in
     let mid = c.keys.self in
-    let new = c.ask_and_mark.new.self in
+    let new = c.take_at_key_and_update_mark.new.self in
     let key = c.in-Some.key in
-    let came = subst (IsAskedAt mid.held new.held key c.keys.steps c.ask_and_mark.new.steps) c.in-Nothing.is c.ask_and_mark.ensures.asked in
+    let came = subst (IsAskedAt mid.held new.held key c.keys.steps c.take_at_key_and_update_mark.new.steps) c.in-Nothing.is c.take_at_key_and_update_mark.ensures.asked in
     record {
       low = omega (arith, kept.low, first.0);
       high = omega (arith, first.1);
-      walked = walked-more c.args.which c.args.low c.keys.from key c.args.self.now mid new c.args.steps.now c.keys.steps c.ask_and_mark.new.steps c.args.was c.keys.busy c.in-Nothing.here
-          kept.low first.0 kept.walked first.2 came c.ask_and_mark.ensures.others;
-      next = c.ask_and_mark.ensures.next ∙ kept.next;
-      capacity = c.ask_and_mark.ensures.capacity ∙ kept.capacity;
+      walked = walked-more c.args.which c.args.low c.keys.from key c.args.self.now mid new c.args.steps.now c.keys.steps c.take_at_key_and_update_mark.new.steps c.args.was c.keys.busy c.in-Nothing.here
+          kept.low first.0 kept.walked first.2 came c.take_at_key_and_update_mark.ensures.others;
+      next = c.take_at_key_and_update_mark.ensures.next ∙ kept.next;
+      capacity = c.take_at_key_and_update_mark.ensures.capacity ∙ kept.capacity;
     }
 
-pub returns-in_default-ask_and_mark : goal.returns-in_default-ask_and_mark
-returns-in_default-ask_and_mark g c =
+pub returns-in_default-take_at_key_and_update_mark : goal.returns-in_default-take_at_key_and_update_mark
+returns-in_default-take_at_key_and_update_mark g c =
     let kept = c.keys.invariant in
     let first = c.in-Some.ensures.some in
     let old = c.args.self.now in
     let mid = c.keys.self in
-    let new = c.ask_and_mark.new.self in
+    let new = c.take_at_key_and_update_mark.new.self in
     let key = c.in-Some.key in
-    let gave = given-at mid.held new.held key c.keys.steps c.ask_and_mark.new.steps c.ask_and_mark.result c.ask_and_mark.ensures.asked c.in_default-ask_and_mark.not-Nothing in
-    let came = subst (IsAskedAt mid.held new.held key c.keys.steps c.ask_and_mark.new.steps) gave.1 c.ask_and_mark.ensures.asked in
+    let gave = given-at mid.held new.held key c.keys.steps c.take_at_key_and_update_mark.new.steps c.take_at_key_and_update_mark.result c.take_at_key_and_update_mark.ensures.asked c.in_default-take_at_key_and_update_mark.not-Nothing in
+    let came = subst (IsAskedAt mid.held new.held key c.keys.steps c.take_at_key_and_update_mark.new.steps) gave.1 c.take_at_key_and_update_mark.ensures.asked in
     record {
-      walked = subst (HasWalked c.args.which c.args.low c.args.high old new c.args.steps.now c.ask_and_mark.new.steps c.args.was) (sym gave.1)
-          (walked-given c.args.which c.args.low c.keys.from key c.args.high old mid new c.args.steps.now c.keys.steps c.ask_and_mark.new.steps c.args.was c.keys.busy gave.0
+      walked = subst (HasWalked c.args.which c.args.low c.args.high old new c.args.steps.now c.take_at_key_and_update_mark.new.steps c.args.was) (sym gave.1)
+          (walked-given c.args.which c.args.low c.keys.from key c.args.high old mid new c.args.steps.now c.keys.steps c.take_at_key_and_update_mark.new.steps c.args.was c.keys.busy gave.0
           kept.low first.0 first.1 kept.walked first.2 came);
-      given = c.ask_and_mark.ensures.given;
+      given = c.take_at_key_and_update_mark.ensures.given;
       next = ap (next_after c.args.self.now.next) (sym gave.1);
-      capacity = c.ask_and_mark.ensures.capacity ∙ kept.capacity;
+      capacity = c.take_at_key_and_update_mark.ensures.capacity ∙ kept.capacity;
     }
 
 pub returns-clause-walked : goal.returns-clause-walked

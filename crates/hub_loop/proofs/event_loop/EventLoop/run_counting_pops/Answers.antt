@@ -26,7 +26,7 @@ loop-preserved g c =
       tt,
       (
         kept.0 ++ c.in-Ok.turn ∷ [],
-        turned_more g.H.Handler.leaves g.H.Handler.refuses kept.0 c.in-Ok.turn c.args.self.now c.loop.self c.turn.new.self c.rest.new.self kept.1
-            (c.loop.steps, c.turn.new.steps, c.turn.ensures.looked, c.in-Ok.ensures.turn) (c.rest.ensures.rests, c.rest.ensures.same),
+        turned_more g.H.Handler.leaves g.H.Handler.refuses kept.0 c.in-Ok.turn c.args.self.now c.loop.self c.turn.new.self c.sleep_or_yield_after_turn.new.self kept.1
+            (c.loop.steps, c.turn.new.steps, c.turn.ensures.looked, c.in-Ok.ensures.turn) (c.sleep_or_yield_after_turn.ensures.rests, c.sleep_or_yield_after_turn.ensures.same),
       ),
     )

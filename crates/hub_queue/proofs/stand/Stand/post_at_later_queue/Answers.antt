@@ -31,7 +31,7 @@ returns-in-Answered-clause-told g c =
     let tried = subst (λ (s : StandSeat). IsTried s c.post_at_current_queue.new.self (lent_draft c.args.head c.loop-hop.body c.loop-hop.ports) (Answered c.in-Answered.answer)) c.move_to_next_queue.ensures c.in-Answered.ensures.tried in
     let of_lent = subst (λ (d : Draft). IsTried (gone_to c.loop-hop.self c.in-Some.next) c.post_at_current_queue.new.self d (Answered c.in-Answered.answer)) (same_lent c.args.head kept.same_body kept.same_ports) tried in
     let there = went_there _ _ _ c.args.self.now.name c.loop-hop.self _ c.in-Some.next c.post_at_current_queue.new.self c.loop-hop._hop kept.gone.name c.self.view_is c.in-Some.ensures.next kept.went c.in-Some.ensures.found c.in-Some.ensures.rest tried.0 in
-    told_answered _ _ c.args.self.now.name c.post_at_current_queue.new.self.name (c.loop-hop._hop + 1) _ _ _ _ there.1 of_lent.1 (told_hop _ _ _ _ c.loop-hop._hop _ kept.told c.tell.ensures c.in-Answered.ensures.told)
+    told_answered _ _ c.args.self.now.name c.post_at_current_queue.new.self.name (c.loop-hop._hop + 1) _ _ _ _ there.1 of_lent.1 (told_hop _ _ _ _ c.loop-hop._hop _ kept.told c.tell_done.ensures c.in-Answered.ensures.told)
 
 pub loop-hop-preserved : goal.loop-hop-preserved
 loop-hop-preserved g c =
@@ -45,5 +45,5 @@ loop-hop-preserved g c =
       same_body = c.in-Turned.ensures.left.0 ∙ kept.same_body;
       same_ports = c.in-Turned.ensures.left.1 ∙ kept.same_ports;
       went = there.0;
-      told = told_hop_alone _ _ _ _ c.loop-hop._hop kept.told c.tell.ensures c.in-Turned.ensures.told;
+      told = told_hop_alone _ _ _ _ c.loop-hop._hop kept.told c.tell_done.ensures c.in-Turned.ensures.told;
     }

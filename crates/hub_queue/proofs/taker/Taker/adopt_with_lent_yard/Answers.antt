@@ -13,7 +13,7 @@ invariant_of-self-in-Ok g c =
     let epoch = c.self.inside.epoch in
     taker_moves _ (record { end = c.self.inside.end.0; epoch = epoch; retired = c.self.inside.retired.items; newest = c.self.inside.newest; left = c.self.inside.left }) c.replace-older.result _ _ c.self.invariant
     (λ same. c.if-moves-eq-MAX_MOVES.false (ap (λ n. epoch + n) behind ∙ same))
-    (c.replace-older.ensures.value ∙ c.retire.ensures)
+    (c.replace-older.ensures.value ∙ c.retire_gate.ensures)
     (c.push_back_reserved.ensures.items ∙ ap (λ l. l ++ c.replace-older.result ∷ []) c.reserve.ensures.items)
     (subst (IsNewTakerQueue c.self.inside.end.0 (epoch + length c.self.inside.retired.items + 1) c.self.inside.lines) (sym c.replace-older.ensures.after) (subst (λ n. IsNewTakerQueue c.self.inside.end.0 (epoch + n + 1) c.self.inside.lines c.in-Ok.queue) behind c.in-Ok.ensures.ok))
 

@@ -50,8 +50,8 @@ loop-orders-preserved c =
     let s = get_or opened done d in
     let orders = pairs_first (λ s w. All (λ (o : OrderSeat). o ≡ s.for_agent) w.0.items) done opened rest left (c.in-Some.orders, c.in-Some.bell) step.0 pairs d in
     let now = c.loop-orders.seats in
-    let new = c.add_peer_to_every_seat.new.seats in
-    let got : AllGet s.for_agent now.items new = subst (λ (l : List Seat). AllGet s.for_agent l new) c.deref_mut.ensures.value (c.in_ok-add_peer_to_every_seat.ensures s.for_agent orders) in
+    let new = c.add_peer_agent_to_every_seat.new.seats in
+    let got : AllGet s.for_agent now.items new = subst (λ (l : List Seat). AllGet s.for_agent l new) c.deref_mut.ensures.value (c.in_ok-add_peer_agent_to_every_seat.ensures s.for_agent orders) in
     let written = with_items_is now new (got.0 ∙ search rules) in
     record {
       count = was.count;

@@ -14,7 +14,7 @@ pub returns-in-Err-clause-reads : goal.returns-in-Err-clause-reads
 returns-in-Err-clause-reads c =
     elim c.in-Err.ensures.says [
       | inl h ↦ inl h
-      | inr h ↦ inr (refused c.args.text.now c.loop-rest.number (known c.loop-rest.reader) c.loop-rest.rest.now c.split_text_line.result.0.now c.split_text_line.result.1.now c.in-Err.error c.split_text_line.ensures.line h c.loop-rest.invariant.so_far)
+      | inr h ↦ inr (refused c.args.text.now c.loop-rest.number (known c.loop-rest.reader) c.loop-rest.rest.now c.split_off_first_text_line.result.0.now c.split_off_first_text_line.result.1.now c.in-Err.error c.split_off_first_text_line.ensures.line h c.loop-rest.invariant.so_far)
     ]
 
 pub returns-in-Err-clause-cases : goal.returns-in-Err-clause-cases
@@ -24,7 +24,7 @@ pub returns-in-Err-clause-refusals : goal.returns-in-Err-clause-refusals
 returns-in-Err-clause-refusals c = explained c.args.text.now (Err (c.loop-rest.number + 1, c.in-Err.error)) (returns-in-Err-clause-cases c)
 
 pub returns-in-Err-clause-memory : goal.returns-in-Err-clause-memory
-returns-in-Err-clause-memory c = λ memory. takes_at c.args.text.now c.loop-rest.number (known c.loop-rest.reader) c.loop-rest.rest.now c.split_text_line.result.0.now c.split_text_line.result.1.now c.split_text_line.ensures.line c.loop-rest.invariant.obeyed (c.in-Err.ensures.memory memory)
+returns-in-Err-clause-memory c = λ memory. takes_at c.args.text.now c.loop-rest.number (known c.loop-rest.reader) c.loop-rest.rest.now c.split_off_first_text_line.result.0.now c.split_off_first_text_line.result.1.now c.split_off_first_text_line.ensures.line c.loop-rest.invariant.obeyed (c.in-Err.ensures.memory memory)
 
 pub loop-rest-init : goal.loop-rest-init
 loop-rest-init c = record {
@@ -35,9 +35,9 @@ loop-rest-init c = record {
 
 pub loop-rest-preserved : goal.loop-rest-preserved
 loop-rest-preserved c = record {
-  so_far = one_more c.args.text.now c.loop-rest.number (known c.loop-rest.reader) (known c.add_line.new.self) c.loop-rest.rest.now c.split_text_line.result.0.now c.split_text_line.result.1.now c.split_text_line.ensures.line c.in_default.ensures.says c.loop-rest.invariant.so_far;
-  obeyed = one_obeys c.args.text.now c.loop-rest.number (known c.loop-rest.reader) (known c.add_line.new.self) c.loop-rest.rest.now c.split_text_line.result.0.now c.split_text_line.result.1.now c.split_text_line.ensures.line c.in_default.ensures.says c.loop-rest.invariant.obeyed;
-  room = omega (arith, c.split_text_line.ensures.shorter);
+  so_far = one_more c.args.text.now c.loop-rest.number (known c.loop-rest.reader) (known c.add_line.new.self) c.loop-rest.rest.now c.split_off_first_text_line.result.0.now c.split_off_first_text_line.result.1.now c.split_off_first_text_line.ensures.line c.in_default.ensures.says c.loop-rest.invariant.so_far;
+  obeyed = one_obeys c.args.text.now c.loop-rest.number (known c.loop-rest.reader) (known c.add_line.new.self) c.loop-rest.rest.now c.split_off_first_text_line.result.0.now c.split_off_first_text_line.result.1.now c.split_off_first_text_line.ensures.line c.in_default.ensures.says c.loop-rest.invariant.obeyed;
+  room = omega (arith, c.split_off_first_text_line.ensures.shorter);
 }
 
 pub returns-clause-reads : goal.returns-clause-reads

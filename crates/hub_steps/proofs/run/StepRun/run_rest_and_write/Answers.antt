@@ -19,11 +19,11 @@ loop-rest-init g c = record {
 pub loop-rest-preserved-in-Continue-1 : goal.loop-rest-preserved-in-Continue-1
 loop-rest-preserved-in-Continue-1 g c =
     let contents = g.W.Write.contents in
-    let x = ok_says c.run_and_keep_outcome.result _ c.is_err.result c.is_err.ensures.value c.if-is_err.false c.run_and_keep_outcome.ensures.ok in
+    let x = ok_says c.run_step_line_and_keep_outcome.result _ c.is_err.result c.is_err.ensures.value c.if-is_err.false c.run_step_line_and_keep_outcome.ensures.ok in
     record {
       run = λ front back n run left.
-          let u = goes_on (front ++ back) (text_lines_of c.loop-rest.rest.now) (text_lines_of c.split_text_line.result.1.now) c.split_text_line.result.0.now c.in-Ok.line (contents c.args.writer.now.writer) (contents c.loop-rest.writer.writer) c.loop-rest.self.core c.run_and_keep_outcome.new.self.core c.loop-rest.self.lives c.run_and_keep_outcome.new.self.lives c.loop-rest.self.kept.items c.run_and_keep_outcome.new.self.kept.items c.split_text_line.ensures.line c.in-Ok.ensures.read (c.loop-rest.invariant.run front back n run left) x in
-          goes_out (front ++ back) (text_lines_of c.split_text_line.result.1.now) (contents c.args.writer.now.writer) (contents c.loop-rest.writer.writer) (contents c.write_and_clear_kept.new.writer.writer) c.run_and_keep_outcome.new.self.core c.run_and_keep_outcome.new.self.lives c.run_and_keep_outcome.new.self.kept.items c.write_and_clear_kept.new.kept.items u c.in_ok-write_and_clear_kept.ensures.ok c.in_ok-write_and_clear_kept.ensures.kept;
+          let u = goes_on (front ++ back) (text_lines_of c.loop-rest.rest.now) (text_lines_of c.split_off_first_text_line.result.1.now) c.split_off_first_text_line.result.0.now c.in-Ok.line (contents c.args.writer.now.writer) (contents c.loop-rest.writer.writer) c.loop-rest.self.core c.run_step_line_and_keep_outcome.new.self.core c.loop-rest.self.lives c.run_step_line_and_keep_outcome.new.self.lives c.loop-rest.self.kept.items c.run_step_line_and_keep_outcome.new.self.kept.items c.split_off_first_text_line.ensures.line c.in-Ok.ensures.read (c.loop-rest.invariant.run front back n run left) x in
+          goes_out (front ++ back) (text_lines_of c.split_off_first_text_line.result.1.now) (contents c.args.writer.now.writer) (contents c.loop-rest.writer.writer) (contents c.write_and_clear_kept.new.writer.writer) c.run_step_line_and_keep_outcome.new.self.core c.run_step_line_and_keep_outcome.new.self.lives c.run_step_line_and_keep_outcome.new.self.kept.items c.write_and_clear_kept.new.kept.items u c.in_ok-write_and_clear_kept.ensures.ok c.in_ok-write_and_clear_kept.ensures.kept;
       failures = c.in_ok-write_and_clear_kept.ensures.failures ∙ c.loop-rest.invariant.failures;
       flushes = c.in_ok-write_and_clear_kept.ensures.flushes ∙ c.loop-rest.invariant.flushes;
     }
@@ -31,9 +31,9 @@ loop-rest-preserved-in-Continue-1 g c =
 pub loop-rest-preserved : goal.loop-rest-preserved
 loop-rest-preserved g c =
     let contents = g.W.Write.contents in
-    let x = ok_says c.run_and_keep_outcome.result _ c.is_err.result c.is_err.ensures.value c.if-is_err.false c.run_and_keep_outcome.ensures.ok in
+    let x = ok_says c.run_step_line_and_keep_outcome.result _ c.is_err.result c.is_err.ensures.value c.if-is_err.false c.run_step_line_and_keep_outcome.ensures.ok in
     record {
-      run = λ front back n run left. goes_on (front ++ back) (text_lines_of c.loop-rest.rest.now) (text_lines_of c.split_text_line.result.1.now) c.split_text_line.result.0.now c.in-Ok.line (contents c.args.writer.now.writer) (contents c.loop-rest.writer.writer) c.loop-rest.self.core c.run_and_keep_outcome.new.self.core c.loop-rest.self.lives c.run_and_keep_outcome.new.self.lives c.loop-rest.self.kept.items c.run_and_keep_outcome.new.self.kept.items c.split_text_line.ensures.line c.in-Ok.ensures.read (c.loop-rest.invariant.run front back n run left) x;
+      run = λ front back n run left. goes_on (front ++ back) (text_lines_of c.loop-rest.rest.now) (text_lines_of c.split_off_first_text_line.result.1.now) c.split_off_first_text_line.result.0.now c.in-Ok.line (contents c.args.writer.now.writer) (contents c.loop-rest.writer.writer) c.loop-rest.self.core c.run_step_line_and_keep_outcome.new.self.core c.loop-rest.self.lives c.run_step_line_and_keep_outcome.new.self.lives c.loop-rest.self.kept.items c.run_step_line_and_keep_outcome.new.self.kept.items c.split_off_first_text_line.ensures.line c.in-Ok.ensures.read (c.loop-rest.invariant.run front back n run left) x;
       failures = c.loop-rest.invariant.failures;
       flushes = c.loop-rest.invariant.flushes;
     }
@@ -47,15 +47,15 @@ returns-in_default-clause-written g c = λ front back n run left.
 pub returns-then-is_err-clause-written : goal.returns-then-is_err-clause-written
 returns-then-is_err-clause-written g c = λ front back n run left.
     let contents = g.W.Write.contents in
-    let same = err_says c.run_and_keep_outcome.result _ c.is_err.result c.is_err.ensures.value c.if-is_err.true c.run_and_keep_outcome.ensures.err in
-    is_cut (front ++ back) (text_lines_of c.loop-rest.rest.now) (contents c.args.writer.now.writer) (contents c.loop-rest.writer.writer) (contents c.finish_output_out_of_memory-then-is_err.new.writer.writer) c.loop-rest.self.core c.loop-rest.self.lives c.loop-rest.self.kept.items c.run_and_keep_outcome.new.self.kept.items c.finish_output_out_of_memory-then-is_err.result same (c.loop-rest.invariant.run front back n run left) c.finish_output_out_of_memory-then-is_err.ensures.written
+    let same = err_says c.run_step_line_and_keep_outcome.result _ c.is_err.result c.is_err.ensures.value c.if-is_err.true c.run_step_line_and_keep_outcome.ensures.err in
+    is_cut (front ++ back) (text_lines_of c.loop-rest.rest.now) (contents c.args.writer.now.writer) (contents c.loop-rest.writer.writer) (contents c.finish_output_out_of_memory-then-is_err.new.writer.writer) c.loop-rest.self.core c.loop-rest.self.lives c.loop-rest.self.kept.items c.run_step_line_and_keep_outcome.new.self.kept.items c.finish_output_out_of_memory-then-is_err.result same (c.loop-rest.invariant.run front back n run left) c.finish_output_out_of_memory-then-is_err.ensures.written
 
 pub returns-in_err-write_and_clear_kept-clause-written : goal.returns-in_err-write_and_clear_kept-clause-written
 returns-in_err-write_and_clear_kept-clause-written g c = λ front back n run left.
     let contents = g.W.Write.contents in
-    let x = ok_says c.run_and_keep_outcome.result _ c.is_err.result c.is_err.ensures.value c.if-is_err.false c.run_and_keep_outcome.ensures.ok in
-    let u = goes_on (front ++ back) (text_lines_of c.loop-rest.rest.now) (text_lines_of c.split_text_line.result.1.now) c.split_text_line.result.0.now c.in-Ok.line (contents c.args.writer.now.writer) (contents c.loop-rest.writer.writer) c.loop-rest.self.core c.run_and_keep_outcome.new.self.core c.loop-rest.self.lives c.run_and_keep_outcome.new.self.lives c.loop-rest.self.kept.items c.run_and_keep_outcome.new.self.kept.items c.split_text_line.ensures.line c.in-Ok.ensures.read (c.loop-rest.invariant.run front back n run left) x in
-    let t = is_begun (front ++ back) (text_lines_of c.split_text_line.result.1.now) (contents c.args.writer.now.writer) (contents c.loop-rest.writer.writer) (contents c.write_and_clear_kept.new.writer.writer) c.run_and_keep_outcome.new.self.core c.run_and_keep_outcome.new.self.lives c.run_and_keep_outcome.new.self.kept.items u c.in_err-write_and_clear_kept.ensures.err in
+    let x = ok_says c.run_step_line_and_keep_outcome.result _ c.is_err.result c.is_err.ensures.value c.if-is_err.false c.run_step_line_and_keep_outcome.ensures.ok in
+    let u = goes_on (front ++ back) (text_lines_of c.loop-rest.rest.now) (text_lines_of c.split_off_first_text_line.result.1.now) c.split_off_first_text_line.result.0.now c.in-Ok.line (contents c.args.writer.now.writer) (contents c.loop-rest.writer.writer) c.loop-rest.self.core c.run_step_line_and_keep_outcome.new.self.core c.loop-rest.self.lives c.run_step_line_and_keep_outcome.new.self.lives c.loop-rest.self.kept.items c.run_step_line_and_keep_outcome.new.self.kept.items c.split_off_first_text_line.ensures.line c.in-Ok.ensures.read (c.loop-rest.invariant.run front back n run left) x in
+    let t = is_begun (front ++ back) (text_lines_of c.split_off_first_text_line.result.1.now) (contents c.args.writer.now.writer) (contents c.loop-rest.writer.writer) (contents c.write_and_clear_kept.new.writer.writer) c.run_step_line_and_keep_outcome.new.self.core c.run_step_line_and_keep_outcome.new.self.lives c.run_step_line_and_keep_outcome.new.self.kept.items u c.in_err-write_and_clear_kept.ensures.err in
     let p = err_from_is_err_and c.from_residual.result c.from_residual.ensures.1 in
     stops (IsRunOutput (front ++ back)) _ _ c.from_residual.result p.0 exit.OutOfMemory t.0 p.1 t.1 t.2
 

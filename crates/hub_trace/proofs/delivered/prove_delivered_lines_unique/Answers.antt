@@ -1,5 +1,0 @@
-use Rattle.hub_trace.proofs.OneListing.{deliveries_are_one}
-use Rattle.hub_trace.proofs.delivered.prove_delivered_lines_unique.Goals as goal
-
-pub returns : goal.returns
-returns c = deliveries_are_one
