@@ -335,7 +335,7 @@ impl<'s, C: Checkpoint> Made<'s, C> {
             self.old.agents.items self.new.agents.items) }
     {
         let agents = script.agents();
-        for declared in script.members() {
+        for declared in script.broadcast_members() {
             let ends = &mut self.ends;
             let member = make_member(alloc, rt, roster, ends, &self.bells, agents, declared)?;
             self.give_end_before_run(declared.at, member)?;

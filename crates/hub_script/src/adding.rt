@@ -109,7 +109,7 @@ impl ScriptReader {
         let at = self.agent_of_number(at)?;
         let member = self.next_broadcast_member();
         self.declare_held_name(alloc, &name, member, at)?;
-        self.push_member(DeclaredMember { at, name, on })
+        self.push_broadcast_member(DeclaredMember { at, name, on })
     }
 
     fn add_action(
@@ -127,19 +127,19 @@ impl ScriptReader {
                 port,
                 body,
                 transfer,
-            } => self.add_post(alloc, agent, &port, body, &transfer),
+            } => self.add_post_action(alloc, agent, &port, body, &transfer),
             ActionForm::Send { to, body, transfer } => {
-                self.add_send(alloc, agent, to, body, &transfer)
+                self.add_send_action(alloc, agent, to, body, &transfer)
             }
-            ActionForm::Cast { member, body } => self.add_cast(agent, &member, body),
-            ActionForm::Start { name } => self.add_start(agent, &name),
+            ActionForm::Cast { member, body } => self.add_cast_action(agent, &member, body),
+            ActionForm::Start { name } => self.add_start_action(agent, &name),
             ActionForm::Loaded => {
                 let queue = queue_of_agent(agent);
                 self.push_action(agent, ActionKind::Loaded { queue })
             }
-            ActionForm::Close { name } => self.add_close(agent, &name),
+            ActionForm::Close { name } => self.add_close_action(agent, &name),
             ActionForm::Wait { messages } => self.push_action(agent, ActionKind::Wait { messages }),
-            ActionForm::Receive { port } => self.add_receive(agent, &port),
+            ActionForm::Receive { port } => self.add_receive_action(agent, &port),
             ActionForm::Order { to } => {
                 let to = self.agent_of_number(to)?;
                 self.push_action(agent, ActionKind::Order { to })
@@ -158,7 +158,7 @@ impl ScriptReader {
     }
 
     #[tactic(auto, unfolding(crate::specs::Context::posting))]
-    fn add_post(
+    fn add_post_action(
         &mut self,
         alloc: Global,
         agent: AgentId,
@@ -189,7 +189,7 @@ impl ScriptReader {
     }
 
     #[tactic(auto, unfolding(crate::specs::Context::sending))]
-    fn add_send(
+    fn add_send_action(
         &mut self,
         alloc: Global,
         agent: AgentId,
@@ -218,7 +218,7 @@ impl ScriptReader {
     }
 
     #[tactic(auto, unfolding(crate::specs::Context::casting))]
-    fn add_cast(
+    fn add_cast_action(
         &mut self,
         agent: AgentId,
         member: &Text,
@@ -233,7 +233,7 @@ impl ScriptReader {
         self.push_action(agent, ActionKind::Cast { member, body })
     }
 
-    fn add_start(&mut self, agent: AgentId, name: &Text) -> Result<(), ScriptError>
+    fn add_start_action(&mut self, agent: AgentId, name: &Text) -> Result<(), ScriptError>
         requires { has_room (known self.old) ≡ true }
         ensures { ReadsTo self.new result
             (adding_action (known self.old) agent (ActionForm.Start name.now)) }
@@ -253,7 +253,7 @@ impl ScriptReader {
         }
     }
 
-    fn add_close(&mut self, agent: AgentId, name: &Text) -> Result<(), ScriptError>
+    fn add_close_action(&mut self, agent: AgentId, name: &Text) -> Result<(), ScriptError>
         requires { has_room (known self.old) ≡ true }
         ensures { ReadsTo self.new result
             (adding_action (known self.old) agent (ActionForm.Close name.now)) }
@@ -265,7 +265,7 @@ impl ScriptReader {
         Ok(())
     }
 
-    fn add_receive(&mut self, agent: AgentId, name: &Text) -> Result<(), ScriptError>
+    fn add_receive_action(&mut self, agent: AgentId, name: &Text) -> Result<(), ScriptError>
         requires { has_room (known self.old) ≡ true }
         ensures { ReadsTo self.new result
             (adding_action (known self.old) agent (ActionForm.Receive name.now)) }

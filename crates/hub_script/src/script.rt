@@ -104,7 +104,7 @@ impl Script {
     }
 
     /// The members of broadcast channels, in the order of their declarations.
-    pub fn members(&self) -> &[DeclaredMember]
+    pub fn broadcast_members(&self) -> &[DeclaredMember]
         ensures members { result.now ≡ members self.now }
         ensures within { IsWithinLimits self.now }
     {
@@ -143,7 +143,10 @@ impl Script {
         Ok(())
     }
 
-    pub(crate) fn push_member(&mut self, member: DeclaredMember) -> Result<(), OutOfMemory>
+    pub(crate) fn push_broadcast_member(
+        &mut self,
+        member: DeclaredMember,
+    ) -> Result<(), OutOfMemory>
         requires { line_count self.old < MAX_SCRIPT_LINES }
         ensures { OnOk result (self.new ≡ with_member self.old member) }
     {

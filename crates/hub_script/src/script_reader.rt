@@ -270,7 +270,7 @@ impl ScriptReader {
             ≡ (next_port (known self.now).script, second_port (known self.now).script) }
     {
         let ports = 2 * self.script.channels().len();
-        let names = ports + self.script.members().len();
+        let names = ports + self.script.broadcast_members().len();
         let first = NamedEnd {
             kind: NameKind::Port,
             place: ports as u16,
@@ -288,7 +288,7 @@ impl ScriptReader {
     pub(crate) fn next_broadcast_member(&self) -> NamedEnd
         ensures { result ≡ next_broadcast_member (known self.now).script }
     {
-        let members = self.script.members().len();
+        let members = self.script.broadcast_members().len();
         NamedEnd {
             kind: NameKind::Member,
             place: members as u16,
@@ -315,12 +315,15 @@ impl ScriptReader {
         Ok(())
     }
 
-    pub(crate) fn push_member(&mut self, member: DeclaredMember) -> Result<(), ScriptError>
+    pub(crate) fn push_broadcast_member(
+        &mut self,
+        member: DeclaredMember,
+    ) -> Result<(), ScriptError>
         requires { has_room (known self.old) ≡ true }
         ensures { ReadsTo self.new result
             (Ok (with_script (known self.old) (with_member (known self.old).script member))) }
     {
-        self.script.push_member(member)?;
+        self.script.push_broadcast_member(member)?;
         Ok(())
     }
 

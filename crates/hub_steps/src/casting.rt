@@ -11,7 +11,7 @@ use hub_envelope::{Body, EndId, Items, LineId};
 use std::alloc::Global;
 
 /// Casts a body, and posts it at each destination.
-pub fn cast(
+pub fn cast_message(
     alloc: Global,
     core: &mut Core,
     end: EndId,

@@ -18,7 +18,7 @@ use hub_envelope::{EndId, Envelope};
 
 /// Closes an end. Where it is a port whose Close would be answered `Done`, its own poster puts the
 /// notice before.
-pub fn close(core: &mut Core, end: EndId, memory_refused: bool) -> Result<Shown, OutOfMemory>
+pub fn close_end(core: &mut Core, end: EndId, memory_refused: bool) -> Result<Shown, OutOfMemory>
     ensures { IfOk result (λ shown.
         ComputesAt core.old core.new (close memory_refused end) shown) }
 {
@@ -78,7 +78,7 @@ pub fn close_listed_ends(
     ensures { OnOk result (ComputesAt core.old core.new (close_each memory_refused ends.now) tt) }
 {
     for end in ends {
-        close(core, *end, memory_refused)?;
+        close_end(core, *end, memory_refused)?;
     }
     Ok(())
 }

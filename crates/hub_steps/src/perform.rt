@@ -9,14 +9,15 @@ ghost use Rattle.hub_steps.specs.Unfolding.{command_takes_memory, is_post, line_
 ghost use Rattle.hub_steps.specs.Unfolding.{on_line_of, poster_command_takes_memory, sender_of};
 ghost use Rattle.hub_steps.specs.Unfolding.{shown_step, takes_at_most_one_step};
 
-use crate::casting::cast;
-use crate::closing::{close, sweep_end_and_close_named_ports};
+use crate::casting::cast_message;
+use crate::closing::{close_end, sweep_end_and_close_named_ports};
 use crate::entering::{take_core_step, take_step_and_return_shown};
 use crate::lives::Lives;
-use crate::posting::post;
+use crate::posting::post_message;
 use crate::shown::Shown;
 use crate::starting::{
-    adopt, make_agent, make_and_start_member, make_and_start_worker_queue, start_if_client_queue,
+    adopt_end, make_agent, make_and_start_member, make_and_start_worker_queue,
+    start_if_client_queue,
 };
 use crate::step_line::{Command, PosterCommand, PosterName, StepLine};
 use hub_core::{Action, Core, Kind, OutOfMemory, Outcome, Sender};
@@ -27,7 +28,7 @@ use std::alloc::Global;
 // It is inlined, since a call copies the line. Nearly all lines are posts and takes, and room for
 // what the others show would be cleared at each.
 #[inline(always)]
-pub fn perform(
+pub fn perform_step_line(
     alloc: Global,
     core: &mut Core,
     lives: &mut Lives,
@@ -64,14 +65,14 @@ pub fn perform(
                 command,
                 memory_refused,
             };
-            perform_rarer(alloc, core, lives, line)
+            perform_rarer_step_line(alloc, core, lives, line)
         }
     }
 }
 
 /// The same of a line that is neither of a poster nor a take.
 #[inline(never)]
-fn perform_rarer(
+fn perform_rarer_step_line(
     alloc: Global,
     core: &mut Core,
     lives: &mut Lives,
@@ -101,11 +102,18 @@ fn perform_rarer(
             memory_refused,
         ),
         Command::Loaded(end) => start_if_client_queue(core, end, memory_refused),
-        Command::Adopt(end, agent) => adopt(core, end, agent, memory_refused),
-        Command::Close(end) => close(core, end, memory_refused),
+        Command::Adopt(end, agent) => adopt_end(core, end, agent, memory_refused),
+        Command::Close(end) => close_end(core, end, memory_refused),
         Command::Sweep(end) => sweep_end_and_close_named_ports(core, end, memory_refused),
         Command::See(agent) => stop_agent_if_requested(core, lives, agent, memory_refused),
-        Command::Cast(end, ports, body) => cast(alloc, core, end, ports, body, memory_refused),
+        Command::Cast(end, ports, body) => cast_message(
+            alloc,
+            core,
+            end,
+            ports,
+            body,
+            memory_refused,
+        ),
         Command::Event(agent, event) => Ok(lives.apply_event(agent, event)),
     }
 }
@@ -133,7 +141,7 @@ fn perform_poster_command(
         PosterCommand::Hop => Action::Hop(sender),
         PosterCommand::Back => Action::Back(sender),
         PosterCommand::Post(ports, body) => {
-            return post(core, sender, ports, body, memory_refused);
+            return post_message(core, sender, ports, body, memory_refused);
         }
     };
     take_step_and_return_shown(core, action, memory_refused)

@@ -16,7 +16,7 @@ use hub_envelope::{Body, EndId, Items, MAX_PORTS};
 
 /// Posts a message, where its tests don't refuse it before the first step. A list that holds the
 /// end to which the message goes has each of its ports closed.
-pub fn post(
+pub fn post_message(
     core: &mut Core,
     sender: Sender,
     ports: Items<EndId>,

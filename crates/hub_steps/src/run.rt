@@ -18,7 +18,7 @@ ghost use Rattle.hub_steps.specs.declared.shown.Shown.{Shown as WhatIsShown};
 ghost use Rattle.hub_steps.specs.declared.step_line.StepLine.{StepLine as Line};
 
 use crate::lives::Lives;
-use crate::perform::perform;
+use crate::perform::perform_step_line;
 use crate::read_step_line::read_step_line;
 use crate::short_text::{SHORT, write_shown_if_post_or_short_delivery};
 use crate::shown::Shown;
@@ -143,7 +143,7 @@ impl StepRun {
             × (self.new.kept.items ≡ self.old.kept.items ++ shown_line shown)) }
         ensures err { OnErr result (self.new.kept.items ≡ self.old.kept.items) }
     {
-        let shown = perform(alloc, &mut self.core, &mut self.lives, line)?;
+        let shown = perform_step_line(alloc, &mut self.core, &mut self.lives, line)?;
         self.keep_outcome_line(&shown)
     }
 

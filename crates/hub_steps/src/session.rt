@@ -8,7 +8,7 @@ ghost use Rattle.hub_steps.specs.StepLineKind.{step_kind_text};
 ghost use Rattle.hub_steps.specs.Unfolding.{command_takes_memory, takes_at_most_one_step};
 ghost use Rattle.hub_steps.specs.declared.session.Reply.TheVariants as reply;
 
-use crate::perform::perform;
+use crate::perform::perform_step_line;
 use crate::read_step_line::read_step_line;
 use crate::run::StepRun;
 use crate::shown::Shown;
@@ -121,7 +121,7 @@ impl Session {
             × (command_takes_memory line.command ≡ true) }
     {
         let takes_at_most_one_step = line.command.takes_at_most_one_step();
-        match perform(alloc, &mut self.run.core, &mut self.run.lives, line) {
+        match perform_step_line(alloc, &mut self.run.core, &mut self.run.lives, line) {
             Ok(shown) => {
                 self.last = Last::Untold(shown);
                 match self.write_untold_outcome() {

@@ -113,7 +113,7 @@ pub fn make_and_start_member(
 }
 
 /// Adopts an end, and starts it where it is a worker's queue.
-pub fn adopt(
+pub fn adopt_end(
     core: &mut Core,
     end: EndId,
     agent: AgentId,

@@ -29,7 +29,10 @@ const EACH_FORM: &str = r#"{"agent":"window","origin":"https://a.test:443/x"}
 fn each_form_is_read(rt: HostRuntime) -> Result<(), Fail> {
     let script = Script::read(rt.alloc(), EACH_FORM.as_bytes())?;
     assert_eq!(rt; (script.agents().len(), script.channels().len()), (2, 2));
-    assert_eq!(rt; (script.members().len(), script.actions().len()), (1, 15));
+    assert_eq!(rt;
+        (script.broadcast_members().len(), script.actions().len()),
+        (1, 15)
+    );
     Ok(())
 }
 

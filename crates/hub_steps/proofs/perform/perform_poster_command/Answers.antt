@@ -10,10 +10,10 @@ pub returns-in-Post-clause-performed : goal.returns-in-Post-clause-performed
 returns-in-Post-clause-performed c =
     let refused = c.args.memory_refused in
     let old = c.args.core.now in
-    let new = c.post.new.core in
+    let new = c.post_message.new.core in
     let s = c.in-Some.sender in
     let ports = c.in-Post.ports in
     let body = c.in-Post.body in
     let steps = line_steps refused (poster.Post ports body) in
-    subst (λ (command : PosterCommand). IfOk c.post.result (λ shown. ComputesAt old new (on_line_of c.args.poster (line_steps refused command)) shown)) (sym c.in-Post.is)
-    (if_ok (λ shown. ComputesAt old new (steps s) shown) (λ shown. ComputesAt old new (on_line_of c.args.poster steps) shown) (λ shown. named old new c.args.poster s steps shown c.in-Some.ensures) c.post.result c.post.ensures)
+    subst (λ (command : PosterCommand). IfOk c.post_message.result (λ shown. ComputesAt old new (on_line_of c.args.poster (line_steps refused command)) shown)) (sym c.in-Post.is)
+    (if_ok (λ shown. ComputesAt old new (steps s) shown) (λ shown. ComputesAt old new (on_line_of c.args.poster steps) shown) (λ shown. named old new c.args.poster s steps shown c.in-Some.ensures) c.post_message.result c.post_message.ensures)

@@ -3,7 +3,7 @@ use Rattle.hub_core.specs.declared.step.Action.TheVariants as action
 use Rattle.hub_steps.specs.Computation.{step}
 use Rattle.hub_steps.specs.Performed.{ComputesAt}
 use Rattle.hub_steps.proofs.Computing.{adopted_and_started}
-use Rattle.hub_steps.proofs.starting.adopt.Goals as goal
+use Rattle.hub_steps.proofs.starting.adopt_end.Goals as goal
 
 pub returns-in_ok-start_if_worker_queue-in-Adopted : goal.returns-in_ok-start_if_worker_queue-in-Adopted
 returns-in_ok-start_if_worker_queue-in-Adopted c =

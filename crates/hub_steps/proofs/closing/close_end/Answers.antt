@@ -2,7 +2,7 @@ use Rattle.std.proofs.Common.{sym, subst}
 use Rattle.hub_steps.specs.Performed.{ComputesAt}
 use Rattle.hub_steps.specs.Unfolding.{close}
 use Rattle.hub_steps.proofs.Computing.{closed_on}
-use Rattle.hub_steps.proofs.closing.close.Goals as goal
+use Rattle.hub_steps.proofs.closing.close_end.Goals as goal
 
 pub returns : goal.returns
 returns c =

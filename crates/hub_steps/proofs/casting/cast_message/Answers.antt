@@ -1,5 +1,5 @@
 use Rattle.hub_steps.proofs.Computing.{cast_on, cast_refused}
-use Rattle.hub_steps.proofs.casting.cast.Goals as goal
+use Rattle.hub_steps.proofs.casting.cast_message.Goals as goal
 
 pub returns-in-Destinations : goal.returns-in-Destinations
 returns-in-Destinations c =

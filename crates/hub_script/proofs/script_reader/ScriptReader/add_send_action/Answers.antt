@@ -5,7 +5,7 @@ use Rattle.hub_script.specs.Context.{acting}
 use Rattle.hub_script.specs.Known.{Known, declared_end, queue_of}
 use Rattle.hub_script.specs.Reader.{known}
 use Rattle.hub_script.proofs.Posting.{sent, transferred}
-use Rattle.hub_script.proofs.script_reader.ScriptReader.add_send.Goals as goal
+use Rattle.hub_script.proofs.script_reader.ScriptReader.add_send_action.Goals as goal
 
 pub returns : goal.returns
 returns c =

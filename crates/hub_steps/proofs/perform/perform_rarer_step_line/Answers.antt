@@ -1,6 +1,6 @@
 use Rattle.hub_steps.specs.declared.step_line.Command.TheVariants as command
 use Rattle.hub_steps.proofs.Computing.{performed}
-use Rattle.hub_steps.proofs.perform.perform_rarer.Goals as goal
+use Rattle.hub_steps.proofs.perform.perform_rarer_step_line.Goals as goal
 
 pub returns-in-Step-clause-performed : goal.returns-in-Step-clause-performed
 returns-in-Step-clause-performed c =

@@ -1,6 +1,6 @@
 use Rattle.hub_steps.specs.declared.step_line.Command.TheVariants as command
 use Rattle.hub_steps.proofs.Computing.{performed}
-use Rattle.hub_steps.proofs.perform.perform.Goals as goal
+use Rattle.hub_steps.proofs.perform.perform_step_line.Goals as goal
 
 pub returns-in-At-clause-performed : goal.returns-in-At-clause-performed
 returns-in-At-clause-performed c =

@@ -5,7 +5,7 @@ use Rattle.hub_steps.specs.declared.shown.Shown.TheVariants.{Answer, Doomed}
 use Rattle.hub_steps.specs.Performed.{ComputesAt}
 use Rattle.hub_steps.specs.Unfolding.{send, post}
 use Rattle.hub_steps.proofs.Computing.{if_ok, given, post_long, post_listed, doomed}
-use Rattle.hub_steps.proofs.posting.post.Goals as goal
+use Rattle.hub_steps.proofs.posting.post_message.Goals as goal
 
 pub returns-then-listed-gt-MAX_PORTS : goal.returns-then-listed-gt-MAX_PORTS
 returns-then-listed-gt-MAX_PORTS c =
