@@ -29,7 +29,7 @@ pub(crate) struct Agents {
 /// A loop that holds nothing, and the bell that wakes it. `None` where there is no memory.
 fn open(alloc: Global, number: u8) -> Option<(Loop, Bell)> {
     let mut orders = Order::open(alloc, 2).ok()?;
-    let (listener, bell) = Listener::open(alloc).ok()?;
+    let (listener, bell) = Listener::new_with_first_bell(alloc).ok()?;
     let first = First::new(alloc, orders.pop()?);
     let order = orders.pop()?;
     let opened = EventLoop::open(alloc, AgentId(number), order, first, NoCheckpoint, listener);
@@ -47,7 +47,7 @@ fn add_queue<R: Wait>(
     let mut queue = shared.directory.client(rt, ends, bell).ok()?;
     queue.loaded();
     let number = queue.id();
-    event_loop.hold(Held::Client(queue)).ok()?;
+    event_loop.hold_end_or_line(Held::Client(queue)).ok()?;
     Some(number)
 }
 
@@ -55,7 +55,7 @@ fn add_queue<R: Wait>(
 fn add_port(alloc: Global, ends: &mut Ends, event_loop: &mut Loop, bell: Bell) -> Option<Port> {
     let (mut own, port) = channel(alloc, ends, bell).ok()?;
     own.start();
-    event_loop.hold(Held::Port(own)).ok()?;
+    event_loop.hold_end_or_line(Held::Port(own)).ok()?;
     Some(port)
 }
 

@@ -119,7 +119,7 @@ impl<'s, C: Checkpoint, K: Lends<Roster> + Drop> Agent<'s, C, K> {
         ensures { StartsEnd end self.old self.new }
     {
         if !self.event_loop.start_port(end) {
-            self.event_loop.start_client(end);
+            self.event_loop.start_client_queue(end);
         }
     }
 
@@ -134,7 +134,7 @@ impl<'s, C: Checkpoint, K: Lends<Roster> + Drop> Agent<'s, C, K> {
     {
         self.graves.reserve(1)?;
         let (hub, roster) = (&self.shared.hub, &mut self.roster);
-        let Some(closed) = self.event_loop.close(rt, hub, roster, end) else {
+        let Some(closed) = self.event_loop.close_end(rt, hub, roster, end) else {
             return Ok(());
         };
         self.graves.push_reserved(closed.grave);
@@ -148,7 +148,7 @@ impl<'s, C: Checkpoint, K: Lends<Roster> + Drop> Agent<'s, C, K> {
         ensures held { OnOk result (HoldsNoMore self.old self.new) }
     {
         let queue = EndId(u32::from(self.scribe.agent_id().0));
-        let Some(held) = self.event_loop.release(queue) else {
+        let Some(held) = self.event_loop.release_end(queue) else {
             return Ok(());
         };
         match hand_over(rt, &self.shared.directory, held, to) {
@@ -157,7 +157,7 @@ impl<'s, C: Checkpoint, K: Lends<Roster> + Drop> Agent<'s, C, K> {
                 Ok(())
             }
             Err((refused, held)) => {
-                self.hold(rt, held)?;
+                self.hold_end_or_line(rt, held)?;
                 refused.map_or(Ok(()), Err)
             }
         }
@@ -198,7 +198,7 @@ impl<'s, C: Checkpoint, K: Lends<Roster> + Drop> Actor for Agent<'s, C, K> {
             }
             // The document of a client is parsed, which enables its queue.
             ActionKind::Loaded { queue } => {
-                self.event_loop.start_client(*queue);
+                self.event_loop.start_client_queue(*queue);
                 Ok(())
             }
             ActionKind::Close { end } => self.close_port_or_member(rt, *end),

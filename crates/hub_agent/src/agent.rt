@@ -19,7 +19,7 @@ ghost use Rattle.hub_trace.specs.declared.log_entry.LogEntry.{LogEntry};
 use crate::acting::Awaited;
 use crate::actor::Acted;
 use crate::ending::finish_loop;
-use crate::logging::{log_adopted, move_count};
+use crate::logging::{count_moves_of_end, log_adopted};
 use crate::shared::{Peer, Shared, order_all_to_stop};
 use hub_broadcast::Roster;
 use hub_envelope::{AgentId, EndId, OutOfMemory};
@@ -121,7 +121,7 @@ fn log_all_adopted<C: Checkpoint>(
         × WritesEntries entries scribe.old scribe.new) }
 {
     for end in ends {
-        log_adopted(scribe, *end, move_count(event_loop.held_end(*end)))?;
+        log_adopted(scribe, *end, count_moves_of_end(event_loop.held_end(*end)))?;
     }
     Ok(())
 }
@@ -255,14 +255,14 @@ impl<'s, C: Checkpoint, K: Lends<Roster> + Drop> Agent<'s, C, K> {
         log_adopted(
             &mut self.scribe,
             end,
-            move_count(self.event_loop.held_end(end)),
+            count_moves_of_end(self.event_loop.held_end(end)),
         )?;
-        self.event_loop.start_client(end);
+        self.event_loop.start_client_queue(end);
         Ok(true)
     }
 
     /// Whether what it waits for has come.
-    fn check_for_port_or_fetch_queue<R: Wait>(
+    fn has_awaited_end_come<R: Wait>(
         &mut self,
         rt: &R,
         awaited: Awaited,
@@ -296,7 +296,7 @@ impl<'s, C: Checkpoint, K: Lends<Roster> + Drop> Agent<'s, C, K> {
         ensures rest { KeepsButTurns self.old self.new }
     {
         for _ in rt.forever() {
-            if self.check_for_port_or_fetch_queue(rt, awaited)? {
+            if self.has_awaited_end_come(rt, awaited)? {
                 return Ok(());
             }
             match self.turn(rt)? {

@@ -94,10 +94,10 @@ fn log_all_closed(
     let mut left = collect_ends_into_set(alloc, held)?;
     let mut notices = collect_notices_put_by_closed_ports(alloc, &ended.noticed)?;
     for swept in &ended.swept {
-        let end = swept.id();
+        let end = swept.closed_end_id();
         let notice = notices.remove(&end);
         let was_held = left.remove(&end);
-        log_closing_notice_and_close_if_held(scribe, end, notice, was_held)?;
+        log_notice_and_closing_if_held(scribe, end, notice, was_held)?;
     }
     for posted in notices.values() {
         log_closing_notice(scribe, *posted)?;
@@ -106,7 +106,7 @@ fn log_all_closed(
 }
 
 /// Logs the notice of an end, where it was put, and the closing, where the loop held the end.
-fn log_closing_notice_and_close_if_held(
+fn log_notice_and_closing_if_held(
     scribe: &mut Scribe,
     end: EndId,
     notice: Option<Posted>,

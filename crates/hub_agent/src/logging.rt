@@ -38,7 +38,7 @@ fn log_put(
 }
 
 /// How often an end has moved. A member and a line are never adopted.
-pub(crate) fn move_count(held: Option<&Held>) -> Option<u32> {
+pub(crate) fn count_moves_of_end(held: Option<&Held>) -> Option<u32> {
     match held? {
         Held::Port(port) => Some(port.moves()),
         Held::Client(queue) => Some(queue.moves()),
@@ -78,7 +78,7 @@ pub(crate) fn log_closing_notice(scribe: &mut Scribe, posted: Posted) -> Result<
 }
 
 /// Logs the notice of a port that was closed, where it was put, and the closing.
-fn log_closing_notice_and_close(
+fn log_notice_and_closing_of_port(
     scribe: &mut Scribe,
     end: EndId,
     noticed: Noticed,
@@ -102,7 +102,7 @@ pub(crate) fn log_closed_end(
     ensures { OnOk result (WritesEntries (closed_entries end port) scribe.old scribe.new) }
 {
     match port {
-        Some(port) => log_closing_notice_and_close(scribe, end, port.noticed),
+        Some(port) => log_notice_and_closing_of_port(scribe, end, port.noticed),
         None => log_close(scribe, end),
     }
 }
@@ -112,7 +112,7 @@ fn log_closed_ports(scribe: &mut Scribe, closings: &[ClosedPort]) -> Result<(), 
     ensures { OnOk result (WritesEntries (doomed_entries closings.now) scribe.old scribe.new) }
 {
     for closing in closings {
-        log_closing_notice_and_close(scribe, closing.end, closing.noticed)?;
+        log_notice_and_closing_of_port(scribe, closing.end, closing.noticed)?;
     }
     Ok(())
 }

@@ -85,7 +85,7 @@ impl<'s, C: Checkpoint, K: Lends<Roster> + Drop> Agent<'s, C, K> {
         ensures same { KeepsButEnds self.old self.new }
         ensures held { OnOk result (HoldsMore self.old.ends self.new.ends held) }
     {
-        match self.event_loop.hold(held) {
+        match self.event_loop.hold_end_or_line(held) {
             Ok(()) => Ok(()),
             Err(_) => Err(OutOfMemory),
         }

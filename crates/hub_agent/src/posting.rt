@@ -98,11 +98,15 @@ fn close_end_or_return_line<R: Wait>(rt: &R, shared: &Shared, graves: &mut Vec<G
 impl<'s, C: Checkpoint, K: Lends<Roster> + Drop> Agent<'s, C, K> {
     /// Holds an end or a line. Where there is no memory an end is closed, so that nobody waits for
     /// what is posted there.
-    pub(crate) fn hold<R: Wait>(&mut self, rt: &R, held: Held) -> Result<(), OutOfMemory>
+    pub(crate) fn hold_end_or_line<R: Wait>(
+        &mut self,
+        rt: &R,
+        held: Held,
+    ) -> Result<(), OutOfMemory>
         ensures same { KeepsButEnds self.old self.new }
         ensures held { OnOk result (HoldsMore self.old.ends self.new.ends held) }
     {
-        match self.event_loop.hold(held) {
+        match self.event_loop.hold_end_or_line(held) {
             Ok(()) => Ok(()),
             Err((LoopError::OutOfMemory, held)) => {
                 close_end_or_return_line(rt, self.shared, &mut self.graves, held);
@@ -117,7 +121,7 @@ impl<'s, C: Checkpoint, K: Lends<Roster> + Drop> Agent<'s, C, K> {
     {
         let mut held = Ok(());
         for port in ports {
-            held = self.hold(rt, Held::Port(port)).and(held);
+            held = self.hold_end_or_line(rt, Held::Port(port)).and(held);
         }
         held
     }
@@ -161,14 +165,14 @@ impl<'s, C: Checkpoint, K: Lends<Roster> + Drop> Agent<'s, C, K> {
     {
         let mut ports = Vec::with_capacity(self.alloc, ends.len())?;
         for end in ends {
-            let Some(held) = self.event_loop.release(*end) else {
+            let Some(held) = self.event_loop.release_end(*end) else {
                 self.add_ports_to_loop(rt, ports)?;
                 return Ok(None);
             };
             match held_into_port(held) {
                 Ok(port) => ports.push_reserved(port),
                 Err(held) => {
-                    let again = self.hold(rt, held);
+                    let again = self.hold_end_or_line(rt, held);
                     self.add_ports_to_loop(rt, ports).and(again)?;
                     return Ok(None);
                 }
@@ -214,15 +218,15 @@ impl<'s, C: Checkpoint, K: Lends<Roster> + Drop> Agent<'s, C, K> {
         ensures held { OnOk result (HasLine queue self.old.ends self.new.ends) }
         ensures none { IfOk result (λ has. has ≡ false → HoldsNoLine self.new.ends queue) }
     {
-        if self.event_loop.has_line_for_destination(queue) {
+        if self.event_loop.has_line_posting_to_end(queue) {
             return Ok(true);
         }
-        self.borrow_line_from_directory(rt, queue)
+        self.hold_line_lent_by_directory(rt, queue)
     }
 
     /// Holds a line to a queue that the directory lends. False where it lends none.
     #[inline(never)]
-    fn borrow_line_from_directory<R: Wait>(
+    fn hold_line_lent_by_directory<R: Wait>(
         &mut self,
         rt: &R,
         queue: EndId,
@@ -233,7 +237,7 @@ impl<'s, C: Checkpoint, K: Lends<Roster> + Drop> Agent<'s, C, K> {
     {
         match self.shared.directory.line_to(rt, queue) {
             Ok(line) => {
-                self.hold(rt, Held::Line(line))?;
+                self.hold_end_or_line(rt, Held::Line(line))?;
                 Ok(true)
             }
             Err(DirectoryError::NoSuchEnd | DirectoryError::NoLine) => Ok(false),

@@ -45,7 +45,7 @@ impl Bell {
     ghost use Rattle.hub_bell.specs.Seats.{board_id, new_at};
 
     /// The first seat at a board, of which this is a bell.
-    pub(crate) fn first_of_board(board: Arc<Board>) -> Bell
+    pub(crate) fn at_first_seat_of_board(board: Arc<Board>) -> Bell
         ensures { result ≡ new_at (board_id
             (arc_value board).words.shared.table_id
             (arc_value (arc_value board).waker.state).shared.table_id) }
@@ -126,7 +126,7 @@ impl Clone for Bell {
 
     /// One more bell of the same loop, which has done nothing yet.
     fn clone(&self) -> Result<Bell, OutOfMemory> {
-        Ok(Bell::first_of_board(Arc::try_clone(&self.board)?))
+        Ok(Bell::at_first_seat_of_board(Arc::try_clone(&self.board)?))
     }
 }
 
@@ -180,7 +180,7 @@ const LOOKS: usize = 32;
 /// A loop's end of its bells: it finds the ends that were rung, and sleeps until the next ring.
 ///
 /// ```rust
-/// let (mut listener, mut bell) = Listener::open(alloc)?;
+/// let (mut listener, mut bell) = Listener::new_with_first_bell(alloc)?;
 /// bell.ring(EndId(7));
 /// assert_eq!(rt; listener.take_rung_groups(), 1);
 /// assert_eq!(rt; listener.take_bits_of_word(0), 1 << 7);
@@ -222,7 +222,7 @@ impl Listener {
     };
 
     /// A listener, and the first of its bells. No bit is set.
-    pub fn open(alloc: Global) -> Result<(Listener, Bell), OutOfMemory>
+    pub fn new_with_first_bell(alloc: Global) -> Result<(Listener, Bell), OutOfMemory>
         ensures { IfOk result (λ made.
             (made.0 ≡ new_at made.0.board) × (made.1 ≡ new_at made.0.board)) }
     {
@@ -230,7 +230,7 @@ impl Listener {
         let waker = sleeper.unparker().clone()?;
         let (words, seat) = BoardWords::of_words(alloc, &[0; WORDS], &())?;
         let board = Arc::new(alloc, Board { words, waker })?;
-        let bell = Bell::first_of_board(Arc::try_clone(&board)?);
+        let bell = Bell::at_first_seat_of_board(Arc::try_clone(&board)?);
         let listener = Listener {
             sleeper,
             board,
@@ -245,7 +245,7 @@ impl Listener {
         ensures { IfOk result (λ bell. bell ≡ new_at self.now.board) }
     {
         let board = Arc::try_clone(&self.board)?;
-        Ok(Bell::first_of_board(board))
+        Ok(Bell::at_first_seat_of_board(board))
     }
 
     /// Takes out the names of the groups in which bits were set: bit `n` is set where one was set

@@ -67,7 +67,7 @@ impl Member {
     }
 
     /// How many queues there are from the taker's to the newest, that one not counted.
-    pub fn count_queues_to_newest(&self) -> u32
+    pub fn count_retired_queues(&self) -> u32
         ensures { result ≡ length self.now.taker.retired }
     {
         self.taker.behind()
@@ -75,7 +75,7 @@ impl Member {
 
     /// Closes its end: `Taker::close`. It stays a destination until it leaves the roster, and what
     /// is cast there is answered `Closed`.
-    pub fn close(self) -> Grave
+    pub fn close_end(self) -> Grave
         ensures { IsClosed self.taker result }
     {
         let Member {

@@ -10,7 +10,7 @@ use std::sync::atomic::AtomicU64;
 
 /// The two ports of a new channel, which its host names by a number. Neither is started, and
 /// neither has a token.
-pub fn open_channel<M: Drop>(
+pub fn new_pair_of_channel_ports<M: Drop>(
     alloc: Global,
     name: u64,
 ) -> Result<(ChannelPort<M>, ChannelPort<M>), OutOfMemory>
@@ -26,12 +26,12 @@ pub fn open_channel<M: Drop>(
     let here = Arc::new(alloc, AtomicU64::new(NO_TOKEN))?;
     let there = Arc::new(alloc, AtomicU64::new(NO_TOKEN))?;
     let tokens = (Arc::try_clone(&there)?, Arc::try_clone(&here)?);
-    let port = new_channel_port(to, from, (here, there), name);
-    let peer = new_channel_port(back, from_first, tokens, name);
+    let port = channel_port_of_parts(to, from, (here, there), name);
+    let peer = channel_port_of_parts(back, from_first, tokens, name);
     Ok((port, peer))
 }
 
-fn new_channel_port<M: Drop>(
+fn channel_port_of_parts<M: Drop>(
     to: LinePoster<M>,
     from: LineTaker<M>,
     tokens: (Arc<AtomicU64>, Arc<AtomicU64>),

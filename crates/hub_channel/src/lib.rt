@@ -6,7 +6,7 @@
 //! hands out the token, or the look finds the message.
 //!
 //! ```rust
-//! let (mut left, mut right) = open_channel(alloc, 1)?;
+//! let (mut left, mut right) = new_pair_of_channel_ports(alloc, 1)?;
 //! right.start();
 //! assert!(rt; !right.arm(7).waits);
 //! assert!(rt; matches!(left.post(message), Ok(7)));
@@ -17,6 +17,6 @@
 mod channel;
 mod port;
 
-pub use channel::open_channel;
+pub use channel::new_pair_of_channel_ports;
 pub use hub_line::{LineGrave, LineTaken, NotPosted, OutOfMemory};
 pub use port::{Armed, ChannelPort, NO_TOKEN, PortGrave, PortTaken, take_wake_token};

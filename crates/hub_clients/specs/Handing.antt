@@ -1,7 +1,7 @@
 -- Queues that go from one agent to another.
 use Rattle.std.specs.Prelude.{◌≡◌, ℕ, List, [], ◌∷◌, ◌++◌, Option, Some, Result, Ok, Err}
 use Rattle.std.specs.FinMap as map
-use Rattle.hub_depot.specs.declared.kept.Key.{Key}
+use Rattle.hub_depot.specs.declared.kept_map.Key.{Key}
 use Rattle.hub_depot.specs.Key.{key_cmp}
 use Rattle.hub_envelope.specs.declared.ids.AgentId.{AgentId}
 use Rattle.hub_queue.specs.declared.error.AdoptError.{AdoptError}

@@ -10,11 +10,11 @@ use crate::error::{DirectoryError, HandError, QueueError};
 use crate::handed::{
     Handed, HandedQueue, close_handed_queues, keep_in_lent_map, take_handed_queue_from_map,
 };
-use crate::listing::{Listed, QueueList};
+use crate::listing::{ListedQueue, QueueList};
 use crate::queue::{ClientQueue, Queue, WorkerQueue};
 use hub_depot::Depot;
 use hub_envelope::{AgentId, EndId, MAX_LINES};
-use hub_locked::{Lends, Locked, Unheard};
+use hub_locked::{Lends, Locked, NoHearer};
 use hub_queue::{Bell, Ends, Mailbox, Poster, Taker};
 use std::alloc::Global;
 use std::sync::Wait;
@@ -42,7 +42,7 @@ pub fn open_queue_in_lent_list<L: Lends<QueueList>, R: Wait>(
         return Err(QueueError::TooManyEnds);
     };
     let (taker, posters) = Mailbox::open(alloc, end, MAX_LINES as u8, bell)?;
-    let listed = Listed::new(alloc, end, posters)?;
+    let listed = ListedQueue::new(alloc, end, posters)?;
     lender.lend(rt, |listing| listing.insert(listed))?;
     *ends = drawn;
     Ok(taker)
@@ -182,7 +182,7 @@ impl Directory {
             listing: _,
             handed,
         } = self;
-        let mut waiting = handed.into_kept();
-        close_handed_queues(rt, &mut waiting, &mut Unheard);
+        let mut waiting = handed.into_map();
+        close_handed_queues(rt, &mut waiting, &mut NoHearer);
     }
 }

@@ -7,7 +7,7 @@ ghost use Rattle.hub_clients.specs.Handing.{handed_name, handed_to, taker_of, Ar
 
 use crate::error::HandError;
 use crate::queue::{ClientQueue, WorkerQueue};
-use hub_depot::{Depot, DepotError, Kept, Key, Named, put_into_lent_map, take_from_lent_map};
+use hub_depot::{Depot, DepotError, KeptMap, Key, Named, put_into_lent_map, take_from_lent_map};
 use hub_envelope::{AgentId, EndId, LineId};
 use hub_locked::{Hears, Lends};
 use hub_queue::{AdoptError, Bell, Grave, Onward};
@@ -85,7 +85,7 @@ impl Handed {
 
     /// The name under which the queue of that number waits for an agent. A queue waits as a whole,
     /// with all its epochs, so the agent stands in the place of one.
-    pub(crate) fn key_for_agent(end: EndId, to: AgentId) -> Key
+    pub(crate) fn key_of_queue_handed_to_agent(end: EndId, to: AgentId) -> Key
         ensures { result ≡ handed_name end.0 to }
     {
         Key {
@@ -106,12 +106,12 @@ impl Named for Handed {
     fn name(&self) -> Key
         ensures { result ≡ handed_name (taker_of self.now.queue).end self.now.to }
     {
-        Handed::key_for_agent(self.queue.id(), self.to)
+        Handed::key_of_queue_handed_to_agent(self.queue.id(), self.to)
     }
 }
 
 /// Keeps a queue until that agent fetches it. After an error it comes back.
-pub fn keep_in_lent_map<L: Lends<Kept<Handed>>, R: Wait>(
+pub fn keep_in_lent_map<L: Lends<KeptMap<Handed>>, R: Wait>(
     rt: &R,
     lender: &mut L,
     queue: HandedQueue,
@@ -138,7 +138,7 @@ pub fn keep_in_lent_map<L: Lends<Kept<Handed>>, R: Wait>(
 }
 
 /// Takes out the queue of that number that was handed to that agent.
-pub fn take_handed_queue_from_map<L: Lends<Kept<Handed>>, R: Wait>(
+pub fn take_handed_queue_from_map<L: Lends<KeptMap<Handed>>, R: Wait>(
     rt: &R,
     lender: &mut L,
     end: EndId,
@@ -150,13 +150,13 @@ pub fn take_handed_queue_from_map<L: Lends<Kept<Handed>>, R: Wait>(
     ensures rest { L.shown lender.new
         ≡ option_map (λ kept. map.remove kept (handed_name end.0 to)) (L.shown lender.old) }
 {
-    take_from_lent_map(rt, lender, Handed::key_for_agent(end, to))
+    take_from_lent_map(rt, lender, Handed::key_of_queue_handed_to_agent(end, to))
 }
 
 /// Closes all queues that wait, and tells of each closed end.
 pub fn close_handed_queues<H: Hears<Grave>, R: Wait>(
     rt: &R,
-    waiting: &mut Kept<Handed>,
+    waiting: &mut KeptMap<Handed>,
     heard: &mut H,
 )
     ensures all { waiting.new ≡ map.empty }

@@ -17,5 +17,5 @@ pub use error::{DirectoryError, HandError, QueueError};
 pub use handed::{
     Handed, HandedQueue, close_handed_queues, keep_in_lent_map, take_handed_queue_from_map,
 };
-pub use listing::{Listed, QueueList};
+pub use listing::{ListedQueue, QueueList};
 pub use queue::{Client, ClientQueue, Queue, QueueKind, Worker, WorkerQueue};

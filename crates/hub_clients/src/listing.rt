@@ -13,12 +13,12 @@ use std::marker::Model;
 
 /// A listed queue: its number, and the posters of its lines that are at home.
 #[derive(Drop)]
-pub struct Listed {
+pub struct ListedQueue {
     end: EndId,
     lines: Vec<Option<Poster>>,
 }
 
-impl Model for Listed {
+impl Model for ListedQueue {
     ghost use Rattle.hub_clients.specs.Listings.{ListedSeat, IsInPlace};
 
     ghost Value = { ListedSeat };
@@ -29,25 +29,25 @@ impl Model for Listed {
 }
 
 /// The first line whose poster is at home.
-fn first_line_with_poster(lines: &[Option<Poster>]) -> Option<usize>
+fn first_line_with_poster_at_home(lines: &[Option<Poster>]) -> Option<usize>
     ensures { result ≡ position is_some lines.now }
 {
     lines.iter().position(|line| line.is_some())
 }
 
-impl Listed {
+impl ListedQueue {
     /// A queue with all its lines at home, whose posters these are in order of lines.
-    pub fn new(alloc: Global, end: EndId, posters: Vec<Poster>) -> Result<Listed, OutOfMemory>
+    pub fn new(alloc: Global, end: EndId, posters: Vec<Poster>) -> Result<ListedQueue, OutOfMemory>
         requires count { length posters.items ≡ MAX_LINES }
         requires posters { ArePostersOf end posters.items }
         ensures { IfOk result (λ l. l ≡ record { end = end; lines = map Some posters.items }) }
     {
         let lines = posters.into_iter().map(Some).collect(alloc)?;
-        Ok(Listed { end, lines })
+        Ok(ListedQueue { end, lines })
     }
 
     /// The number of the queue.
-    pub fn id(&self) -> EndId
+    pub fn queue_id(&self) -> EndId
         ensures { result ≡ self.now.end }
     {
         self.end
@@ -60,7 +60,7 @@ impl Listed {
         ensures own { IfSome result
             (λ p. (p.name.end ≡ self.old.end) × (p.name.line.0 < MAX_LINES)) }
     {
-        let line = first_line_with_poster(&self.lines)?;
+        let line = first_line_with_poster_at_home(&self.lines)?;
         self.lines[line].take()
     }
 
@@ -86,7 +86,7 @@ impl Listed {
 /// A poster is lent by being taken out of its line, so nobody else can have it until it comes back.
 #[derive(Drop)]
 pub struct QueueList {
-    queues: Vec<Listed>,
+    queues: Vec<ListedQueue>,
 }
 
 impl Model for QueueList {
@@ -101,21 +101,25 @@ impl Model for QueueList {
 }
 
 /// Where the first queue of that number is listed.
-fn place_of(queues: &[Listed], end: EndId) -> Option<usize>
+fn place_of_first_queue(queues: &[ListedQueue], end: EndId) -> Option<usize>
     requires { IsInOrder queues.now }
     ensures { IsPlaceOf queues.now end result }
 {
-    let place = queues.partition_point(|queue| queue.id().0 < end.0);
+    let place = queues.partition_point(|queue| queue.queue_id().0 < end.0);
     let queue = queues.get(place)?;
-    if queue.id() == end { Some(place) } else { None }
+    if queue.queue_id() == end {
+        Some(place)
+    } else {
+        None
+    }
 }
 
 /// Where a queue of that number is to be listed.
-fn insertion_index(queues: &[Listed], end: EndId) -> usize
+fn insertion_index(queues: &[ListedQueue], end: EndId) -> usize
     requires { IsInOrder queues.now }
     ensures { IsPlaceBehind queues.now end result }
 {
-    queues.partition_point(|queue| queue.id().0 <= end.0)
+    queues.partition_point(|queue| queue.queue_id().0 <= end.0)
 }
 
 impl QueueList {
@@ -131,11 +135,11 @@ impl QueueList {
     /// Lists a queue, behind those of its own or a lower number. Where its number is the greatest,
     /// as of queues that are listed in the order in which they are made, no other is moved.
     /// `OutOfMemory` where there was no memory for one more; then what is listed is as it was.
-    pub fn insert(&mut self, queue: Listed) -> Result<(), OutOfMemory>
+    pub fn insert(&mut self, queue: ListedQueue) -> Result<(), OutOfMemory>
         ensures ok { OnOk result (IsListed self.old self.new queue) }
         ensures err { OnErr result (self.new ≡ self.old) }
     {
-        let place = insertion_index(&self.queues, queue.id());
+        let place = insertion_index(&self.queues, queue.queue_id());
         self.queues.insert(place, queue)?;
         Ok(())
     }
@@ -149,7 +153,7 @@ impl QueueList {
         ensures lent { IsLent self.old self.new end result }
         ensures poster { IfOk result (λ p. (p.name.end ≡ end) × (p.name.line.0 < MAX_LINES)) }
     {
-        let Some(place) = place_of(&self.queues, end) else {
+        let Some(place) = place_of_first_queue(&self.queues, end) else {
             return Err(DirectoryError::NoSuchEnd);
         };
         let queue = &mut self.queues[place];
@@ -161,7 +165,7 @@ impl QueueList {
     pub fn give_back_poster(&mut self, poster: Poster) -> Result<(), Poster>
         ensures { IsGivenBack self.old self.new poster result }
     {
-        let Some(place) = place_of(&self.queues, poster.name().end) else {
+        let Some(place) = place_of_first_queue(&self.queues, poster.name().end) else {
             return Err(poster);
         };
         let queue = &mut self.queues[place];

@@ -92,7 +92,7 @@ impl<K> Queue<K> {
     }
 
     /// How many queues there are from the taker's to the newest, that one not counted.
-    pub fn count_queues_to_newest(&self) -> u32
+    pub fn count_retired_queues(&self) -> u32
         ensures { result ≡ length self.now.retired }
     {
         self.taker.behind()

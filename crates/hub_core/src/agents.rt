@@ -98,7 +98,7 @@ impl Core {
         if memory_refused {
             return Ok(Outcome::NoMemory);
         }
-        let counted = self.agent_with_end_counted_if_queue(kind, agent)?;
+        let counted = self.agent_with_one_more_end_of_kind(kind, agent)?;
         let end = End::new(self.alloc, agent, kind)?;
         // What the agent has is counted once the end has its place.
         self.ends.push(end)?;
@@ -107,7 +107,7 @@ impl Core {
     }
 
     /// The agent holds the first line of a client's or worker's queue that no agent holds.
-    pub(crate) fn hold_free_line(&mut self, end: EndId, agent: AgentId) -> Outcome
+    pub(crate) fn hold_free_line_of_queue(&mut self, end: EndId, agent: AgentId) -> Outcome
         ensures { let free = first_free (kept_lines (slice_get self.old.ends end.0)) in
             (result ≡ line_answer free (seen self.old) end agent)
             × (self.new ≡ core_after self.old result (action.Line end agent)) }
@@ -156,7 +156,7 @@ impl Core {
     }
 
     /// The agent with an end of this kind more.
-    pub(crate) fn agent_with_end_counted_if_queue(
+    pub(crate) fn agent_with_one_more_end_of_kind(
         &self,
         kind: Kind,
         agent: AgentId,
@@ -248,7 +248,7 @@ impl Core {
     {
         let mut ends = Vec::new(self.alloc);
         for (number, end) in self.ends.iter().enumerate() {
-            add_end_if(
+            push_end_if(
                 &mut ends,
                 end.place.is_with_or_arrived_at_agent(agent),
                 number,
@@ -288,7 +288,7 @@ impl Core {
 }
 
 /// Adds the number of an end where it is asked for.
-fn add_end_if(ends: &mut Vec<EndId>, is_asked: bool, number: usize) -> Result<(), OutOfMemory>
+fn push_end_if(ends: &mut Vec<EndId>, is_asked: bool, number: usize) -> Result<(), OutOfMemory>
     ensures { OnOk result (ends.new.items
         ≡ ends.old.items ++ (if is_asked then record { 0 = number } ∷ [] else [])) }
 {

@@ -90,7 +90,7 @@ impl Core {
         ensures refused { (body : List ℕ) → IfSome result (λ o.
             core_after self.now o (action.Cast end ports.now body) ≡ self.now) }
     {
-        if self.maker_of_member(end).is_none() || self.roster.cast.is_some() {
+        if self.agent_that_made_member(end).is_none() || self.roster.cast.is_some() {
             return Some(Outcome::NotNow);
         }
         if !self.roster.members.has(end.0) || self.is_closed(end) {
@@ -106,10 +106,10 @@ impl Core {
     }
 
     /// The agent that made a broadcast channel.
-    pub(crate) fn maker_of_member(&self, end: EndId) -> Option<AgentId>
+    pub(crate) fn agent_that_made_member(&self, end: EndId) -> Option<AgentId>
         ensures { result ≡ maker_of ((seen self.now).end end.0).kind }
     {
-        self.end_at(end)?.kind.maker_of_member()
+        self.end_at(end)?.kind.agent_that_made_member()
     }
 
     fn is_closed(&self, end: EndId) -> bool
@@ -122,7 +122,7 @@ impl Core {
     }
 
     /// A member leaves the roster.
-    pub(crate) fn leave_roster(&mut self, end: EndId) -> Outcome
+    pub(crate) fn take_member_out_of_roster(&mut self, end: EndId) -> Outcome
         ensures { let seated = is_seated self.old.roster.members end.0 in
             (result ≡ part_answer seated (seen self.old))
             × PartLeaves end.0 self.old.roster result self.new.roster

@@ -127,7 +127,7 @@ impl End {
     }
 
     /// The agent has the end, with a new, disabled queue.
-    pub(crate) fn adopt_with_new_queue(
+    pub(crate) fn adopt_by_agent_with_new_queue(
         &mut self,
         alloc: Global,
         agent: AgentId,

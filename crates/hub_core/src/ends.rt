@@ -107,7 +107,7 @@ impl Core {
     }
 
     /// Discards what waits at a closed end, where every queue is settled.
-    pub(crate) fn sweep(&mut self, end: EndId) -> Result<Outcome, OutOfMemory>
+    pub(crate) fn sweep_closed_end(&mut self, end: EndId) -> Result<Outcome, OutOfMemory>
         ensures { MatchResult result
             (λ o. (o ≡ sweep_outcome_at (slice_get self.old.ends end.0))
             × (self.new ≡ core_after self.old o (action.Sweep end)))
@@ -119,17 +119,17 @@ impl Core {
         if !found.is_closed {
             return Ok(Outcome::NotNow);
         }
-        if found.lines.has_poster_from_queue_on(found.looked) {
+        if found.lines.has_poster_at_queue_or_later(found.looked) {
             return Ok(Outcome::Busy);
         }
         let swept = &mut self.ends[end.0 as usize];
         let envelopes = swept.queues.take_all(self.alloc)?;
-        self.mark_ports_swept(envelopes.as_slice());
+        self.mark_ports_of_envelopes_swept(envelopes.as_slice());
         Ok(Outcome::Discarded(envelopes))
     }
 
     /// Gives each port that the envelopes name its place.
-    fn mark_ports_swept(&mut self, envelopes: &[Envelope])
+    fn mark_ports_of_envelopes_swept(&mut self, envelopes: &[Envelope])
         ensures { self.new ≡ record self.old {
           ends = moved_ends (ports_of envelopes.now) Place.Swept self.old.ends;
         } }
@@ -168,13 +168,17 @@ impl Core {
         }
         let newest = found.newest + 1;
         let adopting = self.agent_state_after_adoption(found.kind, agent)?;
-        self.adopt_with_new_queue(end, agent)?;
+        self.adopt_by_agent_with_new_queue(end, agent)?;
         self.set_agent(agent, adopting);
         Ok(Outcome::Adopted(newest))
     }
 
     /// The agent has the end, with a new, disabled queue.
-    fn adopt_with_new_queue(&mut self, end: EndId, agent: AgentId) -> Result<(), OutOfMemory>
+    fn adopt_by_agent_with_new_queue(
+        &mut self,
+        end: EndId,
+        agent: AgentId,
+    ) -> Result<(), OutOfMemory>
         requires { IfSome (slice_get self.old.ends end.0) (λ x. x.newest < MAX_MOVES) }
         ensures ok { OnOk result (self.new ≡ record self.old {
           ends = change_at (adopted_end agent) end.0 self.old.ends;
@@ -182,7 +186,7 @@ impl Core {
         ensures err { OnErr result (self.new ≡ self.old) }
     {
         match self.ends.get_mut(end.0 as usize) {
-            Some(found) => found.adopt_with_new_queue(self.alloc, agent),
+            Some(found) => found.adopt_by_agent_with_new_queue(self.alloc, agent),
             None => Ok(()),
         }
     }
@@ -198,8 +202,8 @@ impl Core {
             IfOk result (λ found. found
             ≡ option_map (adopting released kind) (slice_get self.now.agents agent.0)) }
     {
-        match self.agent_with_end_counted_if_queue(kind, agent)? {
-            Some(found) if !self.has_no_port_poster_inside_queue(kind) => Ok(Some(
+        match self.agent_with_one_more_end_of_kind(kind, agent)? {
+            Some(found) if !self.is_own_poster_outside_queues(kind) => Ok(Some(
                 found.with_updated_away_poster_count(Phase::Inside),
             )),
             found => Ok(found),
@@ -234,11 +238,11 @@ impl Core {
         let Some(found) = self.end_at(end) else {
             return false;
         };
-        found.place.is_closable() && self.has_no_port_poster_inside_queue(found.kind)
+        found.place.is_closable() && self.is_own_poster_outside_queues(found.kind)
     }
 
     /// Whether an end of this kind is no port whose own poster is inside or being turned back.
-    fn has_no_port_poster_inside_queue(&self, kind: Kind) -> bool
+    fn is_own_poster_outside_queues(&self, kind: Kind) -> bool
         ensures { result ≡ is_released (seen self.now).line (Some kind) }
     {
         let Kind::Port(peer) = kind else {

@@ -29,7 +29,7 @@ impl Kind {
     }
 
     /// The agent that made an end of this kind, where it is a member of the roster.
-    pub(crate) fn maker_of_member(self) -> Option<AgentId>
+    pub(crate) fn agent_that_made_member(self) -> Option<AgentId>
         ensures { result ≡ maker_of (Some self) }
     {
         match self {

@@ -84,7 +84,7 @@ impl Lines {
     }
 
     /// Whether the poster of some line is inside or being turned back at a queue from this one on.
-    pub(crate) fn has_poster_from_queue_on(&self, epoch: u64) -> bool
+    pub(crate) fn has_poster_at_queue_or_later(&self, epoch: u64) -> bool
         ensures { result ≡ is_anyone_from epoch self.now }
     {
         self.lines.iter().any(|line| line.phase != Phase::Out && u64::from(line.epoch) >= epoch)

@@ -4,10 +4,11 @@
 //! A post is the steps Enter, Push and Leave of one line. `Core::let_poster_enter_queue`
 //! (`posting.rt`) asks `Core::may_poster_enter`, and answers `In`, or `Moved` at a retired queue
 //! and `Closed` at a closed end, where the poster isn't inside but has to leave as well.
-//! `Core::check_and_push_message` makes its tests in `Core::check_push`. `Core::put_with_ports`
-//! puts the envelope in its queue (`End::put`) and its ports in flight, which is answered
-//! `Accepted`; `TooManyPorts` and `NoMemory` change nothing. `Core::let_poster_leave_queue` answers
-//! `Left`. Each of the three is answered `NotNow`, with nothing changed, where it can't be taken.
+//! `Core::check_and_push_message` makes its tests in `Core::check_push`.
+//! `Core::append_envelope_with_ports` puts the envelope in its queue (`End::put`) and its ports in
+//! flight, which is answered `Accepted`; `TooManyPorts` and `NoMemory` change nothing.
+//! `Core::let_poster_leave_queue` answers `Left`. Each of the three is answered `NotNow`, with
+//! nothing changed, where it can't be taken.
 //!
 //! What a function answers is said by the definitions that a history is held to, over what the
 //! core keeps seen as facts (`seen`); what it changes is one table (`core_after`). The two stand in
@@ -128,7 +129,7 @@ impl Core {
             Action::Client(agent) => self.make_queue(Kind::Client, agent, memory_refused),
             Action::Worker(agent) => self.make_queue(Kind::Worker, agent, memory_refused),
             Action::Member(agent, name) => self.make_member(agent, name, memory_refused),
-            Action::Line(end, agent) => Ok(self.hold_free_line(end, agent)),
+            Action::Line(end, agent) => Ok(self.hold_free_line_of_queue(end, agent)),
             Action::Back(sender) => Ok(self.release_line(sender)),
             Action::Enter(sender) => Ok(self.let_poster_enter_queue(sender)),
             Action::Push(sender, ports, body) => self.check_and_push_message(
@@ -145,12 +146,12 @@ impl Core {
             Action::Look(end) => Ok(self.mark_queue_clear_if_free_of_posters(end)),
             Action::Adopt(end, agent) => self.adopt(end, agent, memory_refused),
             Action::Close(end) => Ok(self.close(end)),
-            Action::Sweep(end) => self.sweep(end),
+            Action::Sweep(end) => self.sweep_closed_end(end),
             Action::Hand(end, agent) => Ok(self.hand_over_queue(end, agent)),
             Action::Order(agent) => Ok(self.request_agent_stop(agent)),
             Action::See(agent) => self.stop_agent_if_requested(agent),
             Action::Cast(end, ports, body) => self.begin_cast(end, ports, body),
-            Action::Part(end) => Ok(self.leave_roster(end)),
+            Action::Part(end) => Ok(self.take_member_out_of_roster(end)),
         }
     }
 
@@ -217,7 +218,9 @@ impl Core {
             Kind::Port(peer) if sender.line.0 == 0 => self.running_holder(peer),
             Kind::Client | Kind::Worker => held_by.filter(|agent| self.is_running(*agent)),
             Kind::Member(_) if sender.line.0 == 0 => {
-                self.maker_of_member(self.roster.cast_source_if_next_destination(sender.end)?)
+                self.agent_that_made_member(
+                    self.roster.cast_source_if_next_destination(sender.end)?,
+                )
             }
             Kind::Port(_) | Kind::Member(_) => None,
         }

@@ -133,7 +133,7 @@ impl Core {
                     ports,
                     notice: false,
                 };
-                self.put_with_ports(line, envelope)?;
+                self.append_envelope_with_ports(line, envelope)?;
                 Ok(Outcome::Accepted(accepted))
             }
             Err(refusal) => Ok(refusal),
@@ -169,7 +169,7 @@ impl Core {
             return Err(Outcome::TooManyPorts);
         }
         if !self.is_good_list(sender, kind, agent, ports)
-            || !self.may_message_go_to_kind(kind, ports, body)
+            || !self.may_message_go_to_end_of_kind(kind, ports, body)
         {
             return Err(Outcome::NotNow);
         }
@@ -195,7 +195,7 @@ impl Core {
 
     /// Whether a message may go to an end of this kind: to a broadcast channel only the body of the
     /// cast, with no ports.
-    fn may_message_go_to_kind(&self, kind: Kind, ports: &[EndId], body: &Body) -> bool
+    fn may_message_go_to_end_of_kind(&self, kind: Kind, ports: &[EndId], body: &Body) -> bool
         ensures { result ≡ is_fitting self.now.roster.cast (Some kind) ports.now body.now }
     {
         match kind {
@@ -241,12 +241,16 @@ impl Core {
             ports: Ports::none(self.alloc),
             notice: true,
         };
-        self.put_with_ports(line, envelope)?;
+        self.append_envelope_with_ports(line, envelope)?;
         Ok(Outcome::Accepted(accepted))
     }
 
     /// Puts an envelope on a line, and its ports in flight.
-    fn put_with_ports(&mut self, line: Line, envelope: Envelope) -> Result<(), OutOfMemory>
+    fn append_envelope_with_ports(
+        &mut self,
+        line: Line,
+        envelope: Envelope,
+    ) -> Result<(), OutOfMemory>
         requires there { envelope.end.0 < length self.old.ends }
         requires queue { HasQueue self.old.ends
             (record { end = envelope.end; line = envelope.line }) line }
@@ -255,20 +259,20 @@ impl Core {
         }) (λ _. self.new ≡ self.old) }
     {
         if envelope.ports.as_slice().is_empty() {
-            return self.put(line, envelope);
+            return self.append_envelope(line, envelope);
         }
         // The ports are placed once the envelope is in its queue, which takes the list.
         let mut travelling = [EndId(0); MAX_PORTS];
         let listed = envelope.ports.as_slice();
         let count = listed.len();
         travelling[..count].copy_from_slice(listed);
-        self.put(line, envelope)?;
+        self.append_envelope(line, envelope)?;
         self.set_places_of_ports(&travelling[..count], Place::InFlight);
         Ok(())
     }
 
     /// Puts an envelope last in the queue at which its line stands.
-    fn put(&mut self, line: Line, envelope: Envelope) -> Result<(), OutOfMemory>
+    fn append_envelope(&mut self, line: Line, envelope: Envelope) -> Result<(), OutOfMemory>
         requires there { envelope.end.0 < length self.old.ends }
         requires queue { HasQueue self.old.ends
             (record { end = envelope.end; line = envelope.line }) line }

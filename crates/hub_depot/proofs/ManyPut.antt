@@ -9,9 +9,9 @@ use Rattle.std.proofs.Math.Seq.{take-append_seam}
 use Rattle.std.proofs.lemmas.List.Elements.{All-nil, All-cons, All-push}
 use Rattle.std.proofs.lemmas.List.Quantifiers.{all_pairs_push}
 use Rattle.std.proofs.lemmas.Map.Views.{tells_apart}
-use Rattle.hub_depot.specs.declared.kept.Key.{Key}
-use Rattle.hub_depot.specs.declared.kept.DepotError.{DepotError}
-use Rattle.hub_depot.specs.declared.kept.DepotError.TheVariants.{Taken}
+use Rattle.hub_depot.specs.declared.kept_map.Key.{Key}
+use Rattle.hub_depot.specs.declared.kept_map.DepotError.{DepotError}
+use Rattle.hub_depot.specs.declared.kept_map.DepotError.TheVariants.{Taken}
 use Rattle.hub_depot.specs.DepotError.{refused_value}
 use Rattle.hub_depot.specs.Key.{key_cmp}
 use Rattle.hub_depot.specs.Putting.{with_all, without_all, IsTakenAmong}

@@ -8,7 +8,7 @@ use Rattle.std.specs.BTreeMap.{is_at}
 use Rattle.std.specs.FinMap.{FinMap, find, get, insert, remove, len, empty, from_entries, empty_of_len, len-remove, get-from_entries, get-insert, get-remove, get-empty, same_map}
 use Rattle.std.proofs.lemmas.Option.{none-some}
 use Rattle.std.proofs.lemmas.Map.Views.{tells_apart}
-use Rattle.hub_depot.specs.declared.kept.Key.{Key}
+use Rattle.hub_depot.specs.declared.kept_map.Key.{Key}
 use Rattle.hub_depot.specs.Key.{key_cmp}
 use Rattle.hub_depot.specs.Named.{EachUnderItsName}
 use Rattle.hub_depot.proofs.Keys.{exact_keys, keys_total}

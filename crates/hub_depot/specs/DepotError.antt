@@ -1,6 +1,6 @@
 -- What a refusal gives back.
-use Rattle.hub_depot.specs.declared.kept.DepotError.{DepotError}
-use Rattle.hub_depot.specs.declared.kept.DepotError.TheVariants.{Taken, OutOfMemory}
+use Rattle.hub_depot.specs.declared.kept_map.DepotError.{DepotError}
+use Rattle.hub_depot.specs.declared.kept_map.DepotError.TheVariants.{Taken, OutOfMemory}
 
 -- the value that was not kept
 abbrev pub refused_value : {V : Type 0} → DepotError V → V

@@ -1,7 +1,7 @@
 -- What a list of values leaves in a map of named values.
 use Rattle.std.specs.Prelude.{◌≡◌, List, [], ◌∷◌, Some, IsSome, SomeIndex, slice_get, take}
 use Rattle.std.specs.FinMap as map
-use Rattle.hub_depot.specs.declared.kept.Key.{Key}
+use Rattle.hub_depot.specs.declared.kept_map.Key.{Key}
 use Rattle.hub_depot.specs.Key.{key_cmp}
 
 -- the map with each value put under its name, one after the other

@@ -6,12 +6,12 @@ ghost use Rattle.std.specs.FinMap as map;
 ghost use Rattle.std.specs.Option.{option_map};
 ghost use Rattle.hub_depot.specs.DepotError.{refused_value};
 
-use crate::kept::{DepotError, Kept, Key, Named};
+use crate::kept_map::{DepotError, KeptMap, Key, Named};
 use hub_locked::Lends;
 use std::sync::Wait;
 
-/// Keeps a value under its name: `Kept::put`. After an error what is kept is as it was.
-pub fn put_into_lent_map<V: Named + Drop, L: Lends<Kept<V>>, R: Wait>(
+/// Keeps a value under its name: `KeptMap::put`. After an error what is kept is as it was.
+pub fn put_into_lent_map<V: Named + Drop, L: Lends<KeptMap<V>>, R: Wait>(
     rt: &R,
     lender: &mut L,
     value: V,
@@ -28,8 +28,8 @@ pub fn put_into_lent_map<V: Named + Drop, L: Lends<Kept<V>>, R: Wait>(
     lender.lend(rt, |kept| kept.put(value))
 }
 
-/// Takes out the value of that name: `Kept::take`. It takes no memory.
-pub fn take_from_lent_map<V: Named, L: Lends<Kept<V>>, R: Wait>(
+/// Takes out the value of that name: `KeptMap::take`. It takes no memory.
+pub fn take_from_lent_map<V: Named, L: Lends<KeptMap<V>>, R: Wait>(
     rt: &R,
     lender: &mut L,
     key: Key,

@@ -6,14 +6,14 @@ ghost use Rattle.std.specs.Option.{option_map};
 ghost use Rattle.hub_depot.specs.DepotError.{refused_value};
 ghost use Rattle.hub_depot.specs.Putting.{with_all, without_all, IsTakenAmong};
 
-use crate::kept::{DepotError, Kept, Key, Named};
+use crate::kept_map::{DepotError, KeptMap, Key, Named};
 use crate::lent::{put_into_lent_map, take_from_lent_map};
 use hub_locked::Lends;
 use std::alloc::Global;
 use std::sync::Wait;
 
 /// Puts one more value, and its name behind those of the values before, or does neither.
-fn put_and_push_key<V: Named + Drop, L: Lends<Kept<V>>, R: Wait>(
+fn put_and_push_key<V: Named + Drop, L: Lends<KeptMap<V>>, R: Wait>(
     rt: &R,
     lender: &mut L,
     names: &mut Vec<Key>,
@@ -41,7 +41,7 @@ fn put_and_push_key<V: Named + Drop, L: Lends<Kept<V>>, R: Wait>(
 }
 
 /// Takes back the values of these names, the last one first.
-fn take_back_values<V: Named + Drop, L: Lends<Kept<V>>, R: Wait>(
+fn take_back_values<V: Named + Drop, L: Lends<KeptMap<V>>, R: Wait>(
     rt: &R,
     lender: &mut L,
     mut names: Vec<Key>,
@@ -61,7 +61,7 @@ fn take_back_values<V: Named + Drop, L: Lends<Kept<V>>, R: Wait>(
 /// one of them in the meantime, or put one of that name in its place.
 ///
 /// It needs memory for the names, so `OutOfMemory` may come where a value of that name is kept.
-pub fn put_all_or_none<V: Named + Drop, L: Lends<Kept<V>>, R: Wait>(
+pub fn put_all_or_none<V: Named + Drop, L: Lends<KeptMap<V>>, R: Wait>(
     rt: &R,
     lender: &mut L,
     alloc: Global,

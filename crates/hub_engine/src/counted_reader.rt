@@ -57,7 +57,7 @@ impl<R: Read> CountedReader<R> {
             IsErr result × (inner_reader self.new ≡ inner_reader self.old) }
     {
         if self.reads >= MAX_READS {
-            return Err(self.count_failure());
+            return Err(self.count_failed_read());
         }
         // The count goes with the call that asks the reader, in one place.
         self.reads += 1;
@@ -89,11 +89,11 @@ impl<R: Read> CountedReader<R> {
                 self.interruptions = self.interruptions.wrapping_add(1);
                 Ok(None)
             }
-            Err(_) => Err(self.count_failure()),
+            Err(_) => Err(self.count_failed_read()),
         }
     }
 
-    fn count_failure(&mut self) -> Device
+    fn count_failed_read(&mut self) -> Device
         ensures { self.new ≡ record self.old { failures = one_counted self.old.failures } }
     {
         self.failures = self.failures.wrapping_add(1);

@@ -78,7 +78,7 @@ impl<W: Write> CountedWriter<W> {
     {
         match answer {
             Ok(count) if count > 0 => Ok(count),
-            _ => Err(self.count_failure()),
+            _ => Err(self.count_failed_write()),
         }
     }
 
@@ -91,11 +91,11 @@ impl<W: Write> CountedWriter<W> {
     {
         match answer {
             Ok(()) => Ok(()),
-            Err(_) => Err(self.count_failure()),
+            Err(_) => Err(self.count_failed_write()),
         }
     }
 
-    fn count_failure(&mut self) -> Device
+    fn count_failed_write(&mut self) -> Device
         ensures { self.new ≡ record self.old { failures = one_counted self.old.failures } }
     {
         self.failures = self.failures.wrapping_add(1);

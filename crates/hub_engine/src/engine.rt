@@ -37,7 +37,7 @@ pub trait Engine {
 ///
 /// `Device` comes where a read or a write failed in this call: nothing was run or written after a
 /// failed read, and how much had gone out at a failed write isn't said.
-pub fn run_engine<E: Engine, R: Read, W: Write>(
+pub fn run_engine_on_whole_input<E: Engine, R: Read, W: Write>(
     alloc: Global,
     reader: &mut CountedReader<R>,
     writer: &mut CountedWriter<W>,

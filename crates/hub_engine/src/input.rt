@@ -53,7 +53,7 @@ pub fn read_input<R: Read>(
     ensures failures { CountsFailedRead result (failed_reads reader.old) (failed_reads reader.new) }
 {
     let mut input = Vec::new(alloc);
-    let mut piece = zeros(alloc, PIECE)?;
+    let mut piece = zero_bytes(alloc, PIECE)?;
     loop {
         if append_piece_or_detect_input_end(reader, &mut piece, &mut input)? {
             return Ok(input);
@@ -85,7 +85,7 @@ fn append_piece_or_detect_input_end<R: Read>(
     Ok(count == 0)
 }
 
-fn zeros(alloc: Global, len: usize) -> Result<Vec<u8>, OutOfMemory>
+fn zero_bytes(alloc: Global, len: usize) -> Result<Vec<u8>, OutOfMemory>
     ensures { IfOk result (λ v. vec_len v ≡ len) }
 {
     vec![in alloc; 0u8; len]

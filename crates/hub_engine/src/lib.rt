@@ -11,7 +11,7 @@ mod status;
 
 pub use counted_reader::CountedReader;
 pub use counted_writer::CountedWriter;
-pub use engine::{Engine, run_engine};
+pub use engine::{Engine, run_engine_on_whole_input};
 pub use input::{InputError, read_input};
 pub use output::{
     PIECE, write_and_clear_kept, write_and_flush, write_input_error, write_out_of_memory,

@@ -9,7 +9,7 @@ ghost use Rattle.hub_envelope.specs.Compact.{IsCompact};
 use crate::OutOfMemory;
 use crate::compact::is_surely_compact;
 use crate::limits::{MAX_BODY_BYTES, MAX_NESTING};
-use crate::profile::{has_whole_numbers, nests_within};
+use crate::profile::{json_value_has_whole_numbers, json_value_nests_within};
 use crate::stored_text::StoredText;
 use serde_json::Value;
 use std::alloc::Global;
@@ -125,10 +125,10 @@ impl Body {
                 });
             }
         };
-        if !has_whole_numbers(&value) {
+        if !json_value_has_whole_numbers(&value) {
             return Err(BodyError::NotWhole);
         }
-        if !nests_within(&value, MAX_NESTING) {
+        if !json_value_nests_within(&value, MAX_NESTING) {
             return Err(BodyError::TooDeep);
         }
         let Ok(text) = value.to_string(alloc) else {

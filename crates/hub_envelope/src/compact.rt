@@ -19,7 +19,7 @@ const MAX_DIGITS: usize = 18;
 pub(crate) fn is_surely_compact(text: &[u8]) -> bool
     ensures { IsTrue result → IsCompact text.now }
 {
-    match after_value(text, MAX_NESTING) {
+    match skip_json_value(text, MAX_NESTING) {
         Some(rest) => rest.is_empty(),
         None => false,
     }
@@ -27,25 +27,25 @@ pub(crate) fn is_surely_compact(text: &[u8]) -> bool
 
 /// What stands behind the value at the front, in which arrays and objects nest at most `levels`
 /// deep. Here and below, None says that no such thing was recognised.
-#[cycle(after_value)]
-fn after_value(text: &[u8], levels: usize) -> Option<&[u8]>
+#[cycle(skip_json_value)]
+fn skip_json_value(text: &[u8], levels: usize) -> Option<&[u8]>
     ensures { IfSome result (λ rest. IsFront levels text.now rest.now) }
 {
     let (first, rest) = text.split_first()?;
     match *first {
-        b'"' => after_closing_quote(rest),
-        b'[' if levels > 0 => after_items(rest, levels - 1),
-        b'{' if levels > 0 => after_members(rest, levels - 1),
+        b'"' => skip_past_closing_quote(rest),
+        b'[' if levels > 0 => skip_array_items(rest, levels - 1),
+        b'{' if levels > 0 => skip_object_members(rest, levels - 1),
         b'n' => rest.strip_prefix(b"ull"),
         b't' => rest.strip_prefix(b"rue"),
         b'f' => rest.strip_prefix(b"alse"),
-        _ => after_whole_number(text),
+        _ => skip_whole_number(text),
     }
 }
 
 /// What follows an array whose `[` comes before the text.
-#[cycle(after_value)]
-fn after_items(text: &[u8], levels: usize) -> Option<&[u8]>
+#[cycle(skip_json_value)]
+fn skip_array_items(text: &[u8], levels: usize) -> Option<&[u8]>
     ensures { IfSome result (λ rest. IsFront (levels + 1) (91 ∷ text.now) rest.now) }
 {
     let (first, after) = text.split_first()?;
@@ -54,7 +54,7 @@ fn after_items(text: &[u8], levels: usize) -> Option<&[u8]>
     }
     let mut rest = text;
     loop {
-        let (mark, after) = after_value(rest, levels)?.split_first()?;
+        let (mark, after) = skip_json_value(rest, levels)?.split_first()?;
         match *mark {
             b',' => rest = after,
             b']' => return Some(after),
@@ -64,8 +64,8 @@ fn after_items(text: &[u8], levels: usize) -> Option<&[u8]>
 }
 
 /// What follows an object whose `{` comes before the text.
-#[cycle(after_value)]
-fn after_members(text: &[u8], levels: usize) -> Option<&[u8]>
+#[cycle(skip_json_value)]
+fn skip_object_members(text: &[u8], levels: usize) -> Option<&[u8]>
     ensures { IfSome result (λ rest. IsFront (levels + 1) (123 ∷ text.now) rest.now) }
 {
     let (first, after) = text.split_first()?;
@@ -75,12 +75,12 @@ fn after_members(text: &[u8], levels: usize) -> Option<&[u8]>
     let mut rest = text;
     let mut before: Option<&[u8]> = None;
     loop {
-        let (key, value) = split_member_key(rest)?;
+        let (key, value) = split_object_key(rest)?;
         if !is_key_in_order(before, key) {
             return None;
         }
         before = Some(key);
-        let (mark, after) = after_value(value, levels)?.split_first()?;
+        let (mark, after) = skip_json_value(value, levels)?.split_first()?;
         match *mark {
             b',' => rest = after,
             b'}' => return Some(after),
@@ -100,7 +100,7 @@ fn is_key_in_order(before: Option<&[u8]>, key: &[u8]) -> bool
 }
 
 /// The bytes of the key at the front, and what stands behind its colon.
-fn split_member_key(text: &[u8]) -> Option<(&[u8], &[u8])>
+fn split_object_key(text: &[u8]) -> Option<(&[u8], &[u8])>
     ensures { IfSome result (λ key. text.now ≡ quoted key.0.now ++ 58 ∷ key.1.now) }
 {
     let (key, rest) = split_plain_string(text)?;
@@ -113,7 +113,7 @@ fn split_member_key(text: &[u8]) -> Option<(&[u8], &[u8])>
 
 /// What follows a string whose first quote comes before the text. Bytes that need an escape have
 /// their short one.
-fn after_closing_quote(text: &[u8]) -> Option<&[u8]>
+fn skip_past_closing_quote(text: &[u8]) -> Option<&[u8]>
     ensures { IfSome result (λ rest. IsFront 0 (34 ∷ text.now) rest.now) }
 {
     let mut rest = text;
@@ -124,14 +124,14 @@ fn after_closing_quote(text: &[u8]) -> Option<&[u8]>
         let after = &rest[end + 1..];
         match rest[end] {
             b'"' => return Some(after),
-            b'\\' => rest = after_escape_letter(after)?,
+            b'\\' => rest = skip_escape_letter(after)?,
             _ => return None,
         }
     }
 }
 
 /// What stands behind the letter of a short escape, before which the backslash stands.
-fn after_escape_letter(text: &[u8]) -> Option<&[u8]>
+fn skip_escape_letter(text: &[u8]) -> Option<&[u8]>
     ensures escape { IfSome result (λ rest. IsEscapeBefore (92 ∷ text.now) rest.now) }
     ensures shorter { IfSome result (λ rest. length rest.now < length text.now) }
 {
@@ -175,19 +175,19 @@ fn is_quote_or_needs_escape(byte: u8) -> bool
 }
 
 /// What stands behind the whole number at the front.
-fn after_whole_number(text: &[u8]) -> Option<&[u8]>
+fn skip_whole_number(text: &[u8]) -> Option<&[u8]>
     ensures { IfSome result (λ rest. IsFront 0 text.now rest.now) }
 {
     let (first, rest) = text.split_first()?;
     match *first {
         b'0' => Some(rest),
-        b'-' => after_positive_number(rest),
-        _ => after_positive_number(text),
+        b'-' => skip_positive_number(rest),
+        _ => skip_positive_number(text),
     }
 }
 
 /// What follows the decimal digits at the front, which don't begin with 0.
-fn after_positive_number(text: &[u8]) -> Option<&[u8]>
+fn skip_positive_number(text: &[u8]) -> Option<&[u8]>
     ensures { IfSome result (λ rest. IsNumberBefore text.now rest.now) }
 {
     let count = leading_digit_count(text);

@@ -27,7 +27,7 @@ impl Draft {
 
     /// The notice that a port puts at its peer when it is closed (this project's own, no event of
     /// WHATWG HTML): it has agent 0, the body `null` and no ports.
-    pub fn new_notice(alloc: Global) -> Result<Draft, OutOfMemory>
+    pub fn new_closing_notice(alloc: Global) -> Result<Draft, OutOfMemory>
         ensures { IfOk result (λ draft. draft ≡ notice_draft) }
     {
         Ok(Draft {

@@ -9,36 +9,36 @@ use serde_json::Value;
 use serde_json::value::Map;
 
 /// Whether each number in the value is whole and fits 64 bits.
-#[cycle(has_whole_numbers)]
-pub(crate) fn has_whole_numbers(value: &Value) -> bool
+#[cycle(json_value_has_whole_numbers)]
+pub(crate) fn json_value_has_whole_numbers(value: &Value) -> bool
     ensures { result ≡ not (has_float (view value.now)) }
 {
     match value {
         Value::Null | Value::Bool(_) | Value::String(_) => true,
         Value::Number(number) => !number.is_f64(),
         Value::Array(items) => items_have_whole_numbers(items),
-        Value::Object(members) => members_have_whole_numbers(members),
+        Value::Object(members) => json_members_have_whole_numbers(members),
     }
 }
 
-#[cycle(has_whole_numbers)]
+#[cycle(json_value_has_whole_numbers)]
 fn items_have_whole_numbers(items: &[Value]) -> bool
     ensures { result ≡ not (items_have_float (items_view items.now)) }
 {
     for item in items {
-        if !has_whole_numbers(item) {
+        if !json_value_has_whole_numbers(item) {
             return false;
         }
     }
     true
 }
 
-#[cycle(has_whole_numbers)]
-fn members_have_whole_numbers(members: &Map<String, Value>) -> bool
+#[cycle(json_value_has_whole_numbers)]
+fn json_members_have_whole_numbers(members: &Map<String, Value>) -> bool
     ensures { result ≡ not (members_have_float (members_view members.now.entries)) }
 {
     for (_, member) in members.iter() {
-        if !has_whole_numbers(member) {
+        if !json_value_has_whole_numbers(member) {
             return false;
         }
     }
@@ -46,35 +46,35 @@ fn members_have_whole_numbers(members: &Map<String, Value>) -> bool
 }
 
 /// Whether arrays and objects nest at most `levels` deep in the value.
-#[cycle(nests_within)]
-pub(crate) fn nests_within(value: &Value, levels: usize) -> bool
+#[cycle(json_value_nests_within)]
+pub(crate) fn json_value_nests_within(value: &Value, levels: usize) -> bool
     ensures { IsTrue result ↔ (depth (view value.now) ≤ levels) }
 {
     match value {
         Value::Null | Value::Bool(_) | Value::Number(_) | Value::String(_) => true,
         Value::Array(items) => levels > 0 && items_nest_within(items, levels - 1),
-        Value::Object(members) => levels > 0 && members_nest_within(members, levels - 1),
+        Value::Object(members) => levels > 0 && json_members_nest_within(members, levels - 1),
     }
 }
 
-#[cycle(nests_within)]
+#[cycle(json_value_nests_within)]
 fn items_nest_within(items: &[Value], levels: usize) -> bool
     ensures { IsTrue result ↔ (items_depth (items_view items.now) ≤ levels) }
 {
     for item in items {
-        if !nests_within(item, levels) {
+        if !json_value_nests_within(item, levels) {
             return false;
         }
     }
     true
 }
 
-#[cycle(nests_within)]
-fn members_nest_within(members: &Map<String, Value>, levels: usize) -> bool
+#[cycle(json_value_nests_within)]
+fn json_members_nest_within(members: &Map<String, Value>, levels: usize) -> bool
     ensures { IsTrue result ↔ (members_depth (members_view members.now.entries) ≤ levels) }
 {
     for (_, member) in members.iter() {
-        if !nests_within(member, levels) {
+        if !json_value_nests_within(member, levels) {
             return false;
         }
     }

@@ -7,7 +7,7 @@ use crate::OutOfMemory;
 use crate::asking::take_in_turn;
 use crate::closing::{ClosedFan, FanGrave};
 use crate::hints::{FanWords, Hints, bit_of_line};
-use crate::places::{any_place_has_item_or_end, shut_all};
+use crate::places::{any_place_has_item_or_end, close_all_lines};
 use hub_channel::Armed;
 use hub_line::{LinePoster, LineTaker, NotPosted, open_line};
 use std::alloc::Global;
@@ -210,7 +210,7 @@ impl<M: Drop> Fan<M> {
             hints,
             alloc: _,
         } = self;
-        shut_all(lines.as_mut_slice());
+        close_all_lines(lines.as_mut_slice());
         ClosedFan {
             grave: FanGrave { lines },
             token: hints.words.take_wake_token(),

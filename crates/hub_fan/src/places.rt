@@ -39,11 +39,11 @@ pub(crate) fn place_has_item_or_end<M: Drop>(place: &mut Option<LineTaker<M>>) -
 }
 
 /// Closes the line of a place.
-pub(crate) fn shut_place<M: Drop>(place: &mut Option<LineTaker<M>>)
+pub(crate) fn close_line_at_place<M: Drop>(place: &mut Option<LineTaker<M>>)
     ensures { Shuts place.old place.new }
 {
     if let Some(line) = place {
-        line.shut();
+        line.close_and_keep_taking();
     }
 }
 
@@ -62,10 +62,10 @@ pub(crate) fn any_place_has_item_or_end<M: Drop>(lines: &mut [Option<LineTaker<M
 }
 
 /// Closes all lines.
-pub(crate) fn shut_all<M: Drop>(lines: &mut [Option<LineTaker<M>>])
+pub(crate) fn close_all_lines<M: Drop>(lines: &mut [Option<LineTaker<M>>])
     ensures { EachPlace Shuts lines.old lines.new }
 {
     for line in lines.iter_mut() {
-        shut_place(line);
+        close_line_at_place(line);
     }
 }

@@ -52,7 +52,7 @@ impl<T: Right> Model for Entry<T> {
 }
 
 /// Takes a line that was turned back off the word.
-fn remove_turned_line_from_word<T: Right>(steps: &GateSteps<T>, seat: &mut GateSeat<T>)
+fn remove_line_turned_back_from_word<T: Right>(steps: &GateSteps<T>, seat: &mut GateSeat<T>)
     requires table { IsSeatOf steps.now.table_id seat.old.table_id }
     requires turned { seat.old.me ≡ (LineTurned (line_in seat.old.me.0), []) }
     ensures stays { seat.new.table_id ≡ seat.old.table_id }
@@ -90,11 +90,11 @@ impl<T: Right> Entry<T> {
         } = self;
         let word = table.shared.fetch_add::<Enter<T>>(&mut seat, 0, ONE_LINE);
         if has_moved_flag(word) {
-            remove_turned_line_from_word(&table.shared, &mut seat);
+            remove_line_turned_back_from_word(&table.shared, &mut seat);
             return Entered::Turned(Entry { table, seat, line }, Refusal::Moved);
         }
         if has_closed_flag(word) {
-            remove_turned_line_from_word(&table.shared, &mut seat);
+            remove_line_turned_back_from_word(&table.shared, &mut seat);
             return Entered::Turned(Entry { table, seat, line }, Refusal::Closed);
         }
         let right = table.shared.exchange(&mut seat, line, None).unwrap();

@@ -135,7 +135,7 @@ impl Life {
     }
 
     /// Whether the handler of the install or activate event still runs.
-    pub fn is_handling(&self) -> bool
+    pub fn is_handler_running(&self) -> bool
         ensures { result ≡ self.now.handling }
     {
         self.handling

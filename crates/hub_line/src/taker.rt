@@ -231,12 +231,12 @@ impl<T: Drop> LineTaker<T> {
         ensures { SameTaker self result.taker × (taken result.taker ≡ taken self) }
     {
         let mut taker = self;
-        taker.shut();
+        taker.close_and_keep_taking();
         LineGrave { taker }
     }
 
     /// Closes the line as `close` does, and leaves what comes until the end to `take`.
-    pub fn shut(&mut self)
+    pub fn close_and_keep_taking(&mut self)
         ensures line { SameTaker self.old self.new × (taken self.new ≡ taken self.old) }
         ensures shut { IsShut self.new }
         ensures empties { self.new.empties ≡ self.old.empties }

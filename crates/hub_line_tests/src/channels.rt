@@ -1,11 +1,11 @@
-use hub_channel::{LineTaken, NotPosted, PortTaken, open_channel};
+use hub_channel::{LineTaken, NotPosted, PortTaken, new_pair_of_channel_ports};
 use std::test::Fail;
 
 /// Each token is handed out once: to the peer's post or close, or back to its port. No contract
 /// says which token a call answers.
 #[test]
 fn a_token_is_handed_out_once(rt: HostRuntime) -> Result<(), Fail> {
-    let (mut left, mut right) = open_channel(rt.alloc(), 9)?;
+    let (mut left, mut right) = new_pair_of_channel_ports(rt.alloc(), 9)?;
     assert_eq!(rt; left.channel_name(), 9);
     assert_eq!(rt; right.arm(41).token, 0);
     assert_eq!(rt; right.arm(42).token, 41);
@@ -21,7 +21,7 @@ fn a_token_is_handed_out_once(rt: HostRuntime) -> Result<(), Fail> {
 
 #[test]
 fn an_armed_port_is_looked_into(rt: HostRuntime) -> Result<(), Fail> {
-    let (mut left, mut right) = open_channel(rt.alloc(), 1)?;
+    let (mut left, mut right) = new_pair_of_channel_ports(rt.alloc(), 1)?;
     assert!(rt; !right.arm(5).waits);
     assert!(rt; matches!(left.post(1u64), Ok(5)));
     assert!(rt; right.arm(5).waits);
@@ -36,7 +36,7 @@ fn an_armed_port_is_looked_into(rt: HostRuntime) -> Result<(), Fail> {
 
 #[test]
 fn a_port_is_disabled_until_it_is_started(rt: HostRuntime) -> Result<(), Fail> {
-    let (mut left, mut right) = open_channel(rt.alloc(), 1)?;
+    let (mut left, mut right) = new_pair_of_channel_ports(rt.alloc(), 1)?;
     assert!(rt; left.post(1u64).is_ok());
     assert!(rt; matches!(right.take(), PortTaken::Disabled));
     right.start();
@@ -50,7 +50,7 @@ fn a_port_is_disabled_until_it_is_started(rt: HostRuntime) -> Result<(), Fail> {
 /// grave hands back what was posted there, up to the end.
 #[test]
 fn a_closed_port_tells_its_peer(rt: HostRuntime) -> Result<(), Fail> {
-    let (mut left, mut right) = open_channel(rt.alloc(), 1)?;
+    let (mut left, mut right) = new_pair_of_channel_ports(rt.alloc(), 1)?;
     left.start();
     right.start();
     for n in 0..100u64 {

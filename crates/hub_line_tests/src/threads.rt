@@ -1,5 +1,5 @@
 use crate::lines::Counted;
-use hub_channel::{ChannelPort, PortTaken, open_channel};
+use hub_channel::{ChannelPort, PortTaken, new_pair_of_channel_ports};
 use hub_line::{LineGrave, LinePoster, LineTaken, LineTaker, open_line};
 use std::sync::atomic::{AtomicU64, Ordering};
 use std::sync::{Arc, Wait};
@@ -177,7 +177,7 @@ fn run<R: Wait>(rt: &R, side: Side, count: u64) -> u64 {
 #[test]
 fn messages_go_to_and_fro(rt: HostRuntime) -> Result<(), Fail> {
     for count in [1u64, 100, 20_000] {
-        let (left, right) = open_channel(rt.alloc(), 1)?;
+        let (left, right) = new_pair_of_channel_ports(rt.alloc(), 1)?;
         let rt = &rt;
         let (came, echoed) = thread::join(rt, || ask(rt, left, count), || echo(rt, right));
         assert_eq!(rt; (came, echoed), (count, count));
@@ -190,7 +190,7 @@ fn many_threads_ask_and_echo(rt: HostRuntime) -> Result<(), Fail> {
     for threads in [4usize, 16] {
         let mut sides = Vec::new(rt.alloc());
         for n in 0..threads / 2 {
-            let (left, right) = open_channel(rt.alloc(), n as u64)?;
+            let (left, right) = new_pair_of_channel_ports(rt.alloc(), n as u64)?;
             sides.push(Side::Asks(left))?;
             sides.push(Side::Echoes(right))?;
         }

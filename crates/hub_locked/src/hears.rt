@@ -17,9 +17,9 @@ pub trait Hears<T> {
 
 /// It keeps nothing of what it is told, and drops it.
 #[derive(Drop)]
-pub struct Unheard;
+pub struct NoHearer;
 
-impl<T: Drop> Hears<T> for Unheard {
+impl<T: Drop> Hears<T> for NoHearer {
     ghost use Rattle.std.specs.Prelude.{None};
 
     ghost told = { λ _. None };

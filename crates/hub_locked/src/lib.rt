@@ -8,6 +8,6 @@ mod hears;
 mod lends;
 mod locked;
 
-pub use hears::{Hears, Unheard};
+pub use hears::{Hears, NoHearer};
 pub use lends::Lends;
 pub use locked::Locked;

@@ -121,7 +121,7 @@ impl Scribe {
         ensures left { self.new
             ≡ record { log = (self.old.log.0, []); adopted = []; messages = 0 } }
     {
-        let agent = self.log.agent();
+        let agent = self.log.agent_id();
         replace(self, Scribe::new(self.alloc, agent))
     }
 
@@ -129,7 +129,7 @@ impl Scribe {
     pub fn agent_id(&self) -> AgentId
         ensures { result ≡ self.now.log.0 }
     {
-        self.log.agent()
+        self.log.agent_id()
     }
 
     /// The log.

@@ -55,7 +55,7 @@ impl<H: Handler + Drop, C: Checkpoint + Drop> EventLoop<H, C> {
     /// a line to that same queue. Ends of one loop have different numbers, and so have its lines.
     ///
     /// `OutOfMemory` where there was no memory for its place. Then it comes back.
-    pub fn hold(&mut self, held: Held) -> Result<(), (LoopError, Held)>
+    pub fn hold_end_or_line(&mut self, held: Held) -> Result<(), (LoopError, Held)>
         ensures ok { OnOk result (HoldsMore self.old.holding.ends.held
             self.new.holding.ends.held held) }
         ensures back { IfErr result (λ refused. refused.1 ≡ held) }
@@ -64,7 +64,7 @@ impl<H: Handler + Drop, C: Checkpoint + Drop> EventLoop<H, C> {
         ensures marks { MarksKept self.old.holding.ends self.new.holding.ends }
         ensures rest { SameButEnds self.old self.new }
     {
-        self.holding.ends.hold(held)
+        self.holding.ends.hold_end_or_line(held)
     }
 
     /// Enables the port of this number, as `Port::start`. False where the loop doesn't hold it.
@@ -79,7 +79,7 @@ impl<H: Handler + Drop, C: Checkpoint + Drop> EventLoop<H, C> {
 
     /// Enables the client's queue of this number, as `ClientQueue::start_messages` and `loaded`.
     /// False where the loop doesn't hold it.
-    pub fn start_client(&mut self, end: EndId) -> bool
+    pub fn start_client_queue(&mut self, end: EndId) -> bool
         ensures started { StartsClient self.old.holding.ends.held self.new.holding.ends.held end
             result }
         ensures marks { MarksKept self.old.holding.ends self.new.holding.ends }
@@ -99,7 +99,7 @@ impl<H: Handler + Drop, C: Checkpoint + Drop> EventLoop<H, C> {
     }
 
     /// Lends the client's queue of this number. `None` where the loop doesn't hold it.
-    pub fn client_mut(&mut self, end: EndId) -> Option<&mut ClientQueue>
+    pub fn client_queue_mut(&mut self, end: EndId) -> Option<&mut ClientQueue>
         ensures some { IfSome result (λ queue.
             Holds self.old.holding.ends.held (ClientHeld queue.now) × (queue.now.end ≡ end.0)) }
         ensures none { IfNone result (HoldsNoClient self.old.holding.ends.held end) }
@@ -120,7 +120,7 @@ impl<H: Handler + Drop, C: Checkpoint + Drop> EventLoop<H, C> {
     }
 
     /// Lends a line that posts at the end of this number. `None` where the loop holds none.
-    pub fn line_mut(&mut self, end: EndId) -> Option<&mut Poster>
+    pub fn line_posting_to_end_mut(&mut self, end: EndId) -> Option<&mut Poster>
         ensures some { IfSome result (λ line. Holds self.old.holding.ends.held (LineHeld line.now)
             × (line.now.name.end ≡ end)) }
         ensures none { IfNone result (HoldsNoLine self.old.holding.ends.held end) }
@@ -130,7 +130,7 @@ impl<H: Handler + Drop, C: Checkpoint + Drop> EventLoop<H, C> {
     }
 
     /// Whether it holds a line that posts at the end of this number.
-    pub fn has_line_for_destination(&self, end: EndId) -> bool
+    pub fn has_line_posting_to_end(&self, end: EndId) -> bool
         ensures some { result ≡ true → (line : StandSeat)
             × Holds self.now.holding.ends.held (LineHeld line) × (line.name.end ≡ end) }
         ensures none { result ≡ false → HoldsNoLine self.now.holding.ends.held end }
@@ -186,7 +186,7 @@ impl<H: Handler + Drop, C: Checkpoint + Drop> EventLoop<H, C> {
     }
 
     /// Gives the port, queue or member of this number out. `None` where the loop doesn't hold it.
-    pub fn release(&mut self, end: EndId) -> Option<Held>
+    pub fn release_end(&mut self, end: EndId) -> Option<Held>
         ensures given { IfSome result (λ held. (end_held held ≡ Some end)
             × HoldsMore self.new.holding.ends.held self.old.holding.ends.held held) }
         ensures none { IfNone result (self.new.holding.ends.held ≡ self.old.holding.ends.held) }
@@ -194,13 +194,13 @@ impl<H: Handler + Drop, C: Checkpoint + Drop> EventLoop<H, C> {
         ensures marks { MarksKept self.old.holding.ends self.new.holding.ends }
         ensures rest { SameButEnds self.old self.new }
     {
-        self.holding.ends.release(end)
+        self.holding.ends.release_end(end)
     }
 
     /// Closes the port, queue or member of this number, which the loop holds no more: a member
     /// leaves the roster first, and a port is closed with its notice. What waits there is for the
     /// caller to sweep. `None` where the loop doesn't hold it.
-    pub fn close<L: Lends<Roster>, R: Wait>(
+    pub fn close_end<L: Lends<Roster>, R: Wait>(
         &mut self,
         rt: &R,
         hub: &Hub,
@@ -215,7 +215,7 @@ impl<H: Handler + Drop, C: Checkpoint + Drop> EventLoop<H, C> {
         ensures marks { MarksKept self.old.holding.ends self.new.holding.ends }
         ensures rest { SameButEnds self.old self.new }
     {
-        let held = self.holding.ends.release(end)?;
+        let held = self.holding.ends.release_end(end)?;
         held.close(rt, hub, roster).ok()
     }
 }

@@ -49,7 +49,7 @@ impl Holding {
         };
         match queue.adopt_for_loop(rt, &hub.yard, bell) {
             Ok(queue) => {
-                self.ends.hold_in_reserved_room(Held::from(queue));
+                self.ends.hold_assuming_room(Held::from(queue));
                 Ok(true)
             }
             Err((AdoptError::OutOfMemory, queue)) => Err(queue),
@@ -95,7 +95,7 @@ impl Holding {
         let arrived = receiving.found.pop_front().unwrap();
         match arrived.adopt(rt, hub, bell) {
             Ok(port) => {
-                self.ends.hold_in_reserved_room(Held::Port(port));
+                self.ends.hold_assuming_room(Held::Port(port));
                 Ok(true)
             }
             Err((AdoptError::OutOfMemory, arrived)) => {

@@ -100,7 +100,7 @@ impl Closed {
     }
 
     /// Closes an end, or keeps a line.
-    fn close_if_end_keep_if_line<R: Wait>(&mut self, rt: &R, hub: &Hub, opened: Held)
+    fn close_held_end_or_keep_held_line<R: Wait>(&mut self, rt: &R, hub: &Hub, opened: Held)
         requires { HasRoom self.old 1 }
         ensures graves { grave_ends self.new.graves.items
             ≡ grave_ends self.old.graves.items ++ open_ends (opened ∷ []) }
@@ -118,7 +118,7 @@ impl Closed {
     }
 
     /// Closes these, in order. There is room for what they are closed to.
-    pub(crate) fn close_all_ends_keep_all_lines<R: Wait>(
+    pub(crate) fn close_held_ends_keep_held_lines<R: Wait>(
         &mut self,
         rt: &R,
         hub: &Hub,
@@ -131,7 +131,7 @@ impl Closed {
             self.new.noticed.items }
     {
         for opened in all {
-            self.close_if_end_keep_if_line(rt, hub, opened);
+            self.close_held_end_or_keep_held_line(rt, hub, opened);
         }
     }
 }
@@ -193,7 +193,7 @@ fn take_unadopted_ports(alloc: Global, kept: &mut Option<Undelivered>) -> VecDeq
 }
 
 /// Puts what was held to what is to be closed. There is room for it.
-fn add_held_ends(held: Slab<Held>, opened: &mut Vec<Held>)
+fn add_held_ends_to_close(held: Slab<Held>, opened: &mut Vec<Held>)
     requires { vec_len opened.old + length (entries held) ≤ vec_capacity opened.old }
     ensures items { opened.new.items
         ≡ opened.old.items ++ map (λ entry. entry.1) (entries held) }
@@ -206,7 +206,7 @@ fn add_held_ends(held: Slab<Held>, opened: &mut Vec<Held>)
 }
 
 /// The same of the queues that were fetched.
-fn add_fetched_queues(queues: Vec<HandedQueue>, opened: &mut Vec<Held>)
+fn add_fetched_queues_to_close(queues: Vec<HandedQueue>, opened: &mut Vec<Held>)
     requires { vec_len opened.old + vec_len queues ≤ vec_capacity opened.old }
     ensures items { opened.new.items ≡ opened.old.items ++ map held_queue queues.items }
     ensures len { vec_len opened.new ≡ vec_len opened.old + vec_len queues }
@@ -218,7 +218,7 @@ fn add_fetched_queues(queues: Vec<HandedQueue>, opened: &mut Vec<Held>)
 }
 
 /// The same of the ports that were found.
-fn add_arrived_ports(found: VecDeque<Arrived>, opened: &mut Vec<Held>)
+fn add_arrived_ports_to_close(found: VecDeque<Arrived>, opened: &mut Vec<Held>)
     requires { vec_len opened.old + deque_len found ≤ vec_capacity opened.old }
     ensures items { opened.new.items ≡ opened.old.items ++ map PortHeld found.items }
     ensures len { vec_len opened.new ≡ vec_len opened.old + deque_len found }
@@ -248,9 +248,9 @@ impl Holding {
         let count = count_all_to_close(&self.ends.held, fetched.as_slice(), kept)?;
         let mut opened = Vec::with_capacity(alloc, count)?;
         self.closed.reserve(count)?;
-        add_held_ends(self.ends.take_all_held(alloc), &mut opened);
-        add_fetched_queues(replace(fetched, Vec::new(alloc)), &mut opened);
-        add_arrived_ports(take_unadopted_ports(alloc, kept), &mut opened);
+        add_held_ends_to_close(self.ends.take_all_held(alloc), &mut opened);
+        add_fetched_queues_to_close(replace(fetched, Vec::new(alloc)), &mut opened);
+        add_arrived_ports_to_close(take_unadopted_ports(alloc, kept), &mut opened);
         Ok(opened)
     }
 
@@ -274,7 +274,7 @@ impl Holding {
         let mut opened = self.take_all_to_close(alloc, fetched, kept)?;
         opened.sort_unstable_by_key(|open| open.id().0);
         remove_members_from_roster(rt, roster, opened.as_slice());
-        self.closed.close_all_ends_keep_all_lines(rt, hub, opened);
+        self.closed.close_held_ends_keep_held_lines(rt, hub, opened);
         let closed = replace(&mut self.closed, Closed::new(alloc));
         Ok(Shutdown::new(alloc, closed))
     }

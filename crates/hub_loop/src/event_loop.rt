@@ -65,7 +65,7 @@ use std::thread;
 ///
 /// ```rust
 /// let mut event_loop = EventLoop::open(alloc, agent, order, handler, NoCheckpoint, listener)?;
-/// event_loop.hold(Held::Port(port))?;
+/// event_loop.hold_end_or_line(Held::Port(port))?;
 /// event_loop.run(rt, &hub)?;          // until the order to end
 /// let ended = event_loop.end(rt, &hub, &directory, &roster)?;
 /// ```
@@ -309,7 +309,7 @@ impl<H: Handler + Drop, C: Checkpoint + Drop> EventLoop<H, C> {
         ensures rest { SameButFetched self.old self.new }
     {
         self.fetched.reserve(1)?;
-        let Some(queue) = take_queue_handed_over(rt, directory, &mut self.fetched, end, self.agent)
+        let Some(queue) = take_or_fetch_queue(rt, directory, &mut self.fetched, end, self.agent)
         else {
             return Ok(false);
         };
@@ -324,7 +324,7 @@ impl<H: Handler + Drop, C: Checkpoint + Drop> EventLoop<H, C> {
 }
 
 /// Takes the queue of this number out of those that were fetched, or else out of the directory.
-fn take_queue_handed_over<R: Wait>(
+fn take_or_fetch_queue<R: Wait>(
     rt: &R,
     directory: &Directory,
     fetched: &mut Vec<HandedQueue>,

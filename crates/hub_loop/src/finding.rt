@@ -83,7 +83,7 @@ pub(crate) fn first_marked_in_range(marks: &Marks, low: usize, high: usize) -> O
 
 impl HeldEnds {
     /// Holds one more, for which there is room. An end is marked, since something may wait there.
-    pub(crate) fn hold_in_reserved_room(&mut self, held: Held)
+    pub(crate) fn hold_assuming_room(&mut self, held: Held)
         requires room { HasRoomFor self.old.held 1 }
         requires bit { HasBit self.old.ready.marks self.old.held.vacant_key }
         ensures held { HoldsMore self.old.held self.new.held held }
@@ -97,7 +97,7 @@ impl HeldEnds {
     }
 
     /// Holds one more, under a key where nothing was held. Where there was no memory it comes back.
-    pub(crate) fn hold(&mut self, held: Held) -> Result<(), (LoopError, Held)>
+    pub(crate) fn hold_end_or_line(&mut self, held: Held) -> Result<(), (LoopError, Held)>
         ensures ok { OnOk result (HoldsMore self.old.held self.new.held held) }
         ensures back { IfErr result (λ refused. refused.1 ≡ held) }
         ensures err { OnErr result (SameValues self.old.held self.new.held) }
@@ -109,7 +109,7 @@ impl HeldEnds {
         if record_line_key(&mut self.lines, &held, self.held.vacant_key()).is_err() {
             return Err((LoopError::OutOfMemory, held));
         }
-        self.hold_in_reserved_room(held);
+        self.hold_assuming_room(held);
         Ok(())
     }
 
@@ -130,7 +130,7 @@ impl HeldEnds {
     }
 
     /// Gives the end of this number out. `None` where it isn't held.
-    pub(crate) fn release(&mut self, end: EndId) -> Option<Held>
+    pub(crate) fn release_end(&mut self, end: EndId) -> Option<Held>
         ensures given { IfSome result (λ held. (end_held held ≡ Some end)
             × HoldsMore self.new.held self.old.held held) }
         ensures none { IfNone result (self.new.held ≡ self.old.held) }

@@ -152,14 +152,14 @@ impl Held {
     }
 
     /// How many queues the end has before its newest one.
-    fn count_queues_to_newest(&self) -> u32
+    fn count_retired_queues_of_end(&self) -> u32
         ensures { result ≡ behind_of (seat_of self.now) }
     {
         match self {
-            Held::Port(port) => port.count_queues_to_newest(),
-            Held::Client(queue) => queue.count_queues_to_newest(),
-            Held::Worker(queue) => queue.count_queues_to_newest(),
-            Held::Member(member) => member.count_queues_to_newest(),
+            Held::Port(port) => port.count_retired_queues(),
+            Held::Client(queue) => queue.count_retired_queues(),
+            Held::Worker(queue) => queue.count_retired_queues(),
+            Held::Member(member) => member.count_retired_queues(),
             Held::Line(_) => 0,
         }
     }
@@ -186,7 +186,7 @@ impl Held {
     ) -> Option<Took>
         ensures { IsHeldAsked self.old self.new steps.old steps.new result }
     {
-        for _ in 0..self.count_queues_to_newest() {
+        for _ in 0..self.count_retired_queues_of_end() {
             match self.take(rt, steps)? {
                 Took::Again => {}
                 took => return Some(took),
@@ -213,7 +213,7 @@ impl Held {
             Held::Port(port) => Ok(ClosedEnd::with_port(close_port(rt, hub, port))),
             Held::Client(queue) => Ok(ClosedEnd::without_port(queue.close())),
             Held::Worker(queue) => Ok(ClosedEnd::without_port(queue.close())),
-            Held::Member(member) => Ok(ClosedEnd::without_port(member.close())),
+            Held::Member(member) => Ok(ClosedEnd::without_port(member.close_end())),
             Held::Line(poster) => Err(poster),
         }
     }

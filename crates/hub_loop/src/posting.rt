@@ -32,7 +32,7 @@ pub type FromHeld = Option<Result<Posted, SendRefusal>>;
 impl Held {
     /// Posts over a port or a line.
     #[inline(always)]
-    fn post<R: Wait>(
+    fn post_over_port_or_line<R: Wait>(
         &mut self,
         rt: &R,
         hub: &Hub,
@@ -91,7 +91,7 @@ impl HeldEnds {
         let key = self.find_key_of_port_or_line(way)?;
         self.held
             .get_mut(key)?
-            .post(rt, hub, agent, parcel, closings)
+            .post_over_port_or_line(rt, hub, agent, parcel, closings)
     }
 }
 

@@ -37,7 +37,7 @@ pub(crate) enum Served {
 
 impl Served {
     /// What the answer of the end under this key comes to; of a line and of nothing there is none.
-    fn from_answer(key: usize, answer: Option<Took>) -> Served
+    fn from_answer_of_end(key: usize, answer: Option<Took>) -> Served
         ensures { result ≡ served_by key answer }
     {
         match answer {
@@ -51,7 +51,7 @@ impl Served {
 }
 
 /// Asks the end under a key, if there is one.
-fn take_at_key<L: Ledger, R: Wait>(
+fn take_envelope_at_key<L: Ledger, R: Wait>(
     rt: &R,
     held: &mut Slab<Held>,
     key: usize,
@@ -60,7 +60,7 @@ fn take_at_key<L: Ledger, R: Wait>(
     ensures { IsAskedAt held.old held.new key steps.old steps.new result }
 {
     match held.get_mut(key) {
-        Some(held) => Served::from_answer(key, held.take_past_emptied_queues(rt, steps)),
+        Some(held) => Served::from_answer_of_end(key, held.take_past_emptied_queues(rt, steps)),
         None => Served::Nothing(false),
     }
 }
@@ -104,7 +104,7 @@ const A_TIME: usize = 64;
 
 impl HeldEnds {
     /// Asks the end under a key, if there is one. Its mark stays where more may wait there.
-    fn take_at_key_and_update_mark<L: Ledger, R: Wait>(
+    fn take_envelope_at_key_and_update_mark<L: Ledger, R: Wait>(
         &mut self,
         rt: &R,
         key: usize,
@@ -116,7 +116,7 @@ impl HeldEnds {
         ensures capacity { self.new.held.capacity ≡ self.old.held.capacity }
         ensures next { self.new.next ≡ self.old.next }
     {
-        let served = take_at_key(rt, &mut self.held, key, steps);
+        let served = take_envelope_at_key(rt, &mut self.held, key, steps);
         match &served {
             Served::Nothing(false) if may_clear_mark(&self.held, &self.ready, key) => {
                 self.ready.marks.unmark_key(key);
@@ -130,7 +130,7 @@ impl HeldEnds {
     /// begins behind it. `was` tells whether an end was busy before.
     // It is inlined, as `take_one_from_marked_ends_in_turn` is: each return would copy an envelope.
     #[inline(always)]
-    fn take_in_range<L: Ledger, R: Wait>(
+    fn take_from_range<L: Ledger, R: Wait>(
         &mut self,
         rt: &R,
         which: Which,
@@ -154,7 +154,7 @@ impl HeldEnds {
             from,
             high,
         ) {
-            match self.take_at_key_and_update_mark(rt, key, steps) {
+            match self.take_envelope_at_key_and_update_mark(rt, key, steps) {
                 Served::Nothing(here) => busy = here | busy,
                 served => {
                     self.next = key + 1;
@@ -185,8 +185,8 @@ impl HeldEnds {
         self.ready.mark_rung_ends(listener);
         let next = self.next;
         let high = self.held.capacity();
-        match self.take_in_range(rt, Which::Marked, next, high, was, steps) {
-            Served::Nothing(busy) => self.take_in_range(rt, Which::Marked, 0, next, busy, steps),
+        match self.take_from_range(rt, Which::Marked, next, high, was, steps) {
+            Served::Nothing(busy) => self.take_from_range(rt, Which::Marked, 0, next, busy, steps),
             served => served,
         }
     }
@@ -213,7 +213,7 @@ impl HeldEnds {
         let mut busy = was;
         let mut from = low;
         'parts: while high - from > A_TIME {
-            match self.take_in_range(rt, Which::Each, from, from + A_TIME, busy, steps) {
+            match self.take_from_range(rt, Which::Each, from, from + A_TIME, busy, steps) {
                 Served::Nothing(now) => busy = now,
                 served => return served,
             }
@@ -223,7 +223,7 @@ impl HeldEnds {
             }
             from += A_TIME;
         }
-        self.take_in_range(rt, Which::Each, from, high, busy, steps)
+        self.take_from_range(rt, Which::Each, from, high, busy, steps)
     }
 
     /// Asks the ends in turn, beginning behind the one served last. Ends that are not marked, and

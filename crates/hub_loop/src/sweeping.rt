@@ -107,7 +107,7 @@ fn sweep_all_graves<R: Wait>(
 }
 
 /// Closes these ports, in order: their graves are to be swept behind the others.
-fn close_found_ports<R: Wait>(
+fn close_ports_found_in_envelopes<R: Wait>(
     rt: &R,
     hub: &Hub,
     found: &mut VecDeque<Arrived>,
@@ -129,7 +129,7 @@ fn close_found_ports<R: Wait>(
 }
 
 /// Takes the ports of the next discarded envelope out of flight. Whether there was one.
-fn take_ports_of_next_envelope<R: Wait>(
+fn take_ports_of_next_discarded_envelope<R: Wait>(
     rt: &R,
     hub: &Hub,
     swept: &[Swept],
@@ -150,7 +150,7 @@ fn take_ports_of_next_envelope<R: Wait>(
 }
 
 /// Gives the lines back. One that the directory refuses is dropped.
-fn give_back_lines<R: Wait>(rt: &R, directory: &Directory, lines: &mut Vec<Poster>) {
+fn give_lines_back_to_directory<R: Wait>(rt: &R, directory: &Directory, lines: &mut Vec<Poster>) {
     while let Some(poster) = lines.pop() {
         drop(directory.give_back(rt, poster));
     }
@@ -185,7 +185,7 @@ impl Shutdown {
             noticed,
             lines,
         } = closed;
-        graves.sort_unstable_by_key(|grave| grave.id().0);
+        graves.sort_unstable_by_key(|grave| grave.closed_end_id().0);
         Shutdown {
             found: VecDeque::new(alloc),
             graves: VecDeque::from_vec(graves),
@@ -219,7 +219,7 @@ impl Shutdown {
             self.old.noticed self.new.noticed }
         ensures all { OnOk result (self.new.graves ≡ []) }
     {
-        close_found_ports(
+        close_ports_found_in_envelopes(
             rt,
             hub,
             &mut self.found,
@@ -227,7 +227,7 @@ impl Shutdown {
             &mut self.noticed,
         )?;
         sweep_all_graves(rt, &mut self.graves, &mut self.swept)?;
-        take_ports_of_next_envelope(
+        take_ports_of_next_discarded_envelope(
             rt,
             hub,
             self.swept.as_slice(),
@@ -250,7 +250,7 @@ impl Shutdown {
         ensures all { OnOk result (self.new.graves ≡ []) }
     {
         sweep_all_graves(rt, &mut self.graves, &mut self.swept)?;
-        give_back_lines(rt, directory, &mut self.lines);
+        give_lines_back_to_directory(rt, directory, &mut self.lines);
         take_ports_of_kept_delivery(rt, hub, kept, &mut self.found)?;
         for _ in rt.forever() {
             if !self.close_and_find_more_ports(rt, hub)? {

@@ -77,7 +77,7 @@ fn posts<R: Wait>(
 
 impl Stage<'_> {
     fn hands<R: Wait>(&mut self, rt: &R) -> bool {
-        match self.from.release(EndId(0)) {
+        match self.from.release_end(EndId(0)) {
             Some(Held::Client(queue)) => {
                 queue
                     .hand(rt, &self.shared.directory, AgentId(3))
@@ -98,7 +98,7 @@ impl Stage<'_> {
             && self.from.held_end(EndId(0)).is_none()
             && is_idle(rt, hub, &mut self.from, false)
             && self.to.fetch(rt, hub, directory, EndId(0)).ok() == Some(true)
-            && match self.to.client_mut(EndId(0)) {
+            && match self.to.client_queue_mut(EndId(0)) {
                 Some(queue) => queue.moves() == 1,
                 None => false,
             }
@@ -118,7 +118,7 @@ impl Stage<'_> {
             && self.moves(rt)
             && posts(rt, self.shared, &mut self.line, "\"c\"", (1, 0))
             && self.rests(rt, false)
-            && self.to.start_client(EndId(0))
+            && self.to.start_client_queue(EndId(0))
             && self.gets(rt, (0, 1, 0, 0), "\"b\"")
             && self.rests(rt, true)
     }
@@ -126,7 +126,7 @@ impl Stage<'_> {
     /// The queue stays busy, and another end is served.
     fn goes_on_beside<R: Wait>(&mut self, rt: &R) -> bool {
         self.moves(rt)
-            && self.to.start_client(EndId(0))
+            && self.to.start_client_queue(EndId(0))
             && self.rests(rt, true)
             && posts(rt, self.shared, &mut self.other, "1", (0, 0))
             && self.gets(rt, (1, 0, 0, 0), "1")
@@ -158,7 +158,7 @@ fn set<'s, R: Wait>(rt: &R, shared: &'s Shared, is_beside: bool) -> Option<(Stag
     let queue = shared.directory.client(rt, ends, bell).ok()?;
     let other = shared.directory.worker(rt, ends, other_bell).ok()?;
     let are_held = holds(&mut from, Held::Client(queue)) && holds(&mut to, Held::Worker(other));
-    let is_started = are_held && from.start_client(EndId(0));
+    let is_started = are_held && from.start_client_queue(EndId(0));
     let held_up = shared.directory.line_to(rt, EndId(0)).ok()?;
     let stage = Stage {
         shared,

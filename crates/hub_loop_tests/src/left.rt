@@ -26,7 +26,7 @@ pub(crate) fn are_swept(swept: &[Swept], rows: &[(u32, &[Message])]) -> bool {
         return false;
     }
     for (swept, (end, row)) in swept.iter().zip(rows) {
-        if swept.id().0 != *end || !are_messages(swept.envelopes(), row) {
+        if swept.closed_end_id().0 != *end || !are_messages(swept.envelopes(), row) {
             return false;
         }
     }

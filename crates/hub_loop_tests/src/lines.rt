@@ -31,15 +31,15 @@ fn sends<R: Wait>(rt: &R, alloc: Global, hub: &Hub, event_loop: &mut Loop) -> Op
 }
 
 fn has_line(event_loop: &mut Loop) -> bool {
-    event_loop.has_line_for_destination(EndId(1))
-        && match event_loop.line_mut(EndId(1)) {
+    event_loop.has_line_posting_to_end(EndId(1))
+        && match event_loop.line_posting_to_end_mut(EndId(1)) {
             Some(line) => line.name().end.0 == 1 && line.name().line.0 == 0,
             None => false,
         }
 }
 
 fn holds_again(event_loop: &mut Loop) -> bool {
-    match event_loop.release(EndId(1)) {
+    match event_loop.release_end(EndId(1)) {
         Some(held) => holds(event_loop, held),
         None => false,
     }
@@ -47,7 +47,7 @@ fn holds_again(event_loop: &mut Loop) -> bool {
 
 /// The loop holds port 1 and then the line. The directory doesn't take that back.
 fn lends<R: Wait>(rt: &R, shared: &Shared, mut event_loop: Loop, line: Poster) -> Option<bool> {
-    let had_line = event_loop.has_line_for_destination(EndId(1));
+    let had_line = event_loop.has_line_posting_to_end(EndId(1));
     let is_held = holds(&mut event_loop, Held::Line(line));
     let is_sent = sends(rt, shared.alloc, &shared.hub, &mut event_loop)?;
     let is_lent = has_line(&mut event_loop)

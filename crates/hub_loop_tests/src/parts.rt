@@ -34,14 +34,14 @@ impl Shared {
 /// A loop of this agent, which holds nothing, and the bell that wakes it.
 pub(crate) fn open(alloc: Global, agent: u8) -> Option<(Loop, Bell)> {
     let mut orders = Order::open(alloc, 2).ok()?;
-    let (listener, bell) = Listener::open(alloc).ok()?;
+    let (listener, bell) = Listener::new_with_first_bell(alloc).ok()?;
     let opened = open_loop(alloc, AgentId(agent), &mut orders, listener)?;
     Some((opened, bell))
 }
 
 /// Whether the loop holds this end or line from now on.
 pub(crate) fn holds(event_loop: &mut Loop, held: Held) -> bool {
-    event_loop.hold(held).ok().is_some()
+    event_loop.hold_end_or_line(held).ok().is_some()
 }
 
 /// What a turn comes to. `None` where there was no memory.

@@ -41,7 +41,7 @@ impl Drop for Agent {
 impl Agent {
     /// `None` where there is no memory.
     pub(crate) fn open(alloc: Global, number: AgentId, origin: Option<Origin>) -> Option<Agent> {
-        let (listener, bell) = Listener::open(alloc).ok()?;
+        let (listener, bell) = Listener::new_with_first_bell(alloc).ok()?;
         let mut orders = Order::open(alloc, 4).ok()?;
         let event_loop = open_loop(alloc, number, &mut orders, listener)?;
         Some(Agent {
@@ -107,9 +107,9 @@ pub(crate) fn loop_of(agents: &mut Vec<Agent>, agent: AgentId) -> Option<&mut Lo
 /// The loop holds an end from now on. Where there is no memory it is asked once more, since the end
 /// was made. Whether it is held.
 pub(crate) fn hold_in(event_loop: &mut Loop, held: Held) -> bool {
-    match event_loop.hold(held) {
+    match event_loop.hold_end_or_line(held) {
         Ok(()) => true,
-        Err((_, held)) => event_loop.hold(held).ok().is_some(),
+        Err((_, held)) => event_loop.hold_end_or_line(held).ok().is_some(),
     }
 }
 
@@ -126,5 +126,5 @@ pub(crate) fn hold(agents: &mut Vec<Agent>, agent: AgentId, held: Held) -> bool 
 
 /// The end of this number, which the loop holds no more.
 pub(crate) fn release(agents: &mut Vec<Agent>, agent: AgentId, end: EndId) -> Option<Held> {
-    loop_of(agents, agent)?.release(end)
+    loop_of(agents, agent)?.release_end(end)
 }

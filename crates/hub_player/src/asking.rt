@@ -168,11 +168,11 @@ impl Player {
             Some(Held::Member(_)) => Some(("holds member", 0)),
             Some(Held::Line(_)) | None => None,
         };
-        let line = match event_loop.line_mut(end) {
+        let line = match event_loop.line_posting_to_end_mut(end) {
             Some(poster) => Some(poster.name().line.0),
             None => None,
         };
-        if line.is_some() != event_loop.has_line_for_destination(end) {
+        if line.is_some() != event_loop.has_line_posting_to_end(end) {
             return Err(Stop::Unexpected);
         }
         match (held, line) {

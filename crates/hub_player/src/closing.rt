@@ -33,7 +33,8 @@ impl Player {
         let Some(event_loop) = loop_of(&mut self.agents, agent) else {
             return Err(Stop::Unexpected);
         };
-        let Some(closed) = event_loop.close(rt, &self.hub, &mut self.roster.as_lock(), end) else {
+        let Some(closed) = event_loop.close_end(rt, &self.hub, &mut self.roster.as_lock(), end)
+        else {
             return Err(Stop::Unexpected);
         };
         let ClosedEnd { grave, port } = closed;
@@ -49,7 +50,7 @@ impl Player {
     fn close_listed(&mut self, agent: AgentId, end: EndId) -> Result<Shown, Stop> {
         match release(&mut self.agents, agent, end) {
             Some(Held::Member(member)) => {
-                self.bury(member.close())?;
+                self.bury(member.close_end())?;
                 answer(Outcome::Done)
             }
             Some(held) => {
@@ -91,7 +92,7 @@ impl Player {
     }
 
     fn bury(&mut self, grave: Grave) -> Result<(), Stop> {
-        match self.seat_mut(grave.id()) {
+        match self.seat_mut(grave.closed_end_id()) {
             Some(seat) => {
                 seat.bury(grave);
                 Ok(())

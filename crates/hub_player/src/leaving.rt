@@ -102,7 +102,7 @@ impl Player {
     }
 
     fn tell_sweep(&mut self, swept: Swept, told: &mut Told) -> Result<(), Stop> {
-        let end = swept.id();
+        let end = swept.closed_end_id();
         let Some(seat) = self.seat_mut(end) else {
             return Err(Stop::Unexpected);
         };

@@ -79,7 +79,7 @@ impl Player {
                     event_loop: Some(event_loop),
                     ..
                 },
-            ) => event_loop.has_line_for_destination(end),
+            ) => event_loop.has_line_posting_to_end(end),
             _ => false,
         }
     }

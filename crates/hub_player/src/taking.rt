@@ -20,7 +20,7 @@ fn take_from<R: Wait>(rt: &R, event_loop: &mut Loop, end: EndId) -> Option<Took>
     if let Some(member) = event_loop.member_mut(end) {
         return Some(take(rt, member));
     }
-    if let Some(queue) = event_loop.client_mut(end) {
+    if let Some(queue) = event_loop.client_queue_mut(end) {
         return Some(take(rt, queue));
     }
     take_of_worker(rt, event_loop, end)
@@ -28,7 +28,7 @@ fn take_from<R: Wait>(rt: &R, event_loop: &mut Loop, end: EndId) -> Option<Took>
 
 /// Takes from the queue of a worker, which the loop gives out for it, since it lends none.
 fn take_of_worker<R: Wait>(rt: &R, event_loop: &mut Loop, end: EndId) -> Option<Took> {
-    match event_loop.release(end)? {
+    match event_loop.release_end(end)? {
         Held::Worker(mut queue) => {
             let took = take(rt, &mut queue);
             if hold_in(event_loop, Held::Worker(queue)) {
@@ -63,7 +63,7 @@ impl Player {
         };
         let is_started = match kind {
             Kind::Port => event_loop.start_port(end),
-            Kind::Client => event_loop.start_client(end),
+            Kind::Client => event_loop.start_client_queue(end),
             Kind::Worker | Kind::Member => return Err(Stop::Start),
         };
         if is_started {
@@ -96,7 +96,7 @@ impl Player {
         let Some(event_loop) = loop_of(&mut self.agents, agent) else {
             return Err(Stop::Unexpected);
         };
-        match event_loop.client_mut(end) {
+        match event_loop.client_queue_mut(end) {
             Some(queue) => {
                 queue.loaded();
                 answer(Outcome::Started)

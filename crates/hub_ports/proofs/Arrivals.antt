@@ -2,7 +2,7 @@
 use Rattle.std.proofs.Common.{◌≡◌, ℕ, ◌+◌, ◌<◌, List, [], ◌∷◌, ◌++◌, length, take, get_or, refl, ap, ◌∙◌, sym, subst, append_assoc, append-nil, option_map, Option, Some, None, IfSome}
 use Rattle.std.proofs.lemmas.List.{take_more}
 use Rattle.std.specs.FinMap as map
-use Rattle.hub_depot.specs.declared.kept.Key.{Key}
+use Rattle.hub_depot.specs.declared.kept_map.Key.{Key}
 use Rattle.hub_envelope.specs.declared.ids.EndId.{EndId}
 use Rattle.hub_ports.specs.Arriving.{Flight, left_in_flight, found_one, missing_one, found_in, missing_in, HasArrived}
 use Rattle.hub_ports.specs.Seats.{PortSeat, place_of}

@@ -6,7 +6,7 @@ use Rattle.std.proofs.Math.ListN.{drop_of_length-le}
 use Rattle.std.proofs.Math.Seq.{drop-append_seam}
 use Rattle.std.proofs.lemmas.List.{drop_more, map-append}
 use Rattle.std.specs.Cmp.{eq_by_cmp_equiv}
-use Rattle.hub_depot.specs.declared.kept.Key.{Key}
+use Rattle.hub_depot.specs.declared.kept_map.Key.{Key}
 use Rattle.hub_depot.proofs.Keys.{keys_total}
 use Rattle.hub_depot.proofs.ManyPut.{remove-insert}
 use Rattle.hub_envelope.specs.declared.ids.EndId.{EndId}

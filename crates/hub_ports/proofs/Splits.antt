@@ -1,7 +1,7 @@
 -- Lists that are taken apart, number after number.
 use Rattle.std.proofs.Common.{◌≡◌, ℕ, ◌+◌, ◌<◌, List, [], ◌∷◌, ◌++◌, length, take, get_or, refl, ap, inl, inr, ◌∙◌, sym, subst}
 use Rattle.std.proofs.lemmas.List.{map-append, take_more, take-map}
-use Rattle.hub_depot.specs.declared.kept.Key.{Key}
+use Rattle.hub_depot.specs.declared.kept_map.Key.{Key}
 use Rattle.hub_envelope.specs.declared.ids.EndId.{EndId}
 use Rattle.hub_ports.specs.Seats.{PortSeat, end_of, ends_of, place_of}
 use Rattle.hub_ports.specs.Splitting.{IsSplit}

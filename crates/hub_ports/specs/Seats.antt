@@ -1,6 +1,6 @@
 -- A port as contracts see it, and the name by which it is found in flight.
 use Rattle.std.specs.Prelude.{Bool, ◌==◌, List, map}
-use Rattle.hub_depot.specs.declared.kept.Key.{Key}
+use Rattle.hub_depot.specs.declared.kept_map.Key.{Key}
 use Rattle.hub_envelope.specs.declared.ids.EndId.{EndId}
 use Rattle.hub_queue.specs.Standing.{StandSeat}
 use Rattle.hub_queue.specs.Taking.{TakerSeat}

@@ -10,7 +10,7 @@ use crate::closing::{Noticed, Spent, put_notice_and_close_port};
 use crate::flight::flight_key;
 use crate::hub::Hub;
 use crate::port::Port;
-use hub_depot::{Kept, take_from_lent_map};
+use hub_depot::{KeptMap, take_from_lent_map};
 use hub_envelope::{EndId, OutOfMemory};
 use hub_locked::Lends;
 use hub_queue::{AdoptError, Bell, Grave};
@@ -104,7 +104,7 @@ pub struct Arrival {
 
 /// Takes the ports of these numbers out of flight, over a flight that anybody lends. After an error
 /// no port was taken.
-pub fn take_ports_from_flight<L: Lends<Kept<Port>>, R: Wait>(
+pub fn take_ports_from_flight<L: Lends<KeptMap<Port>>, R: Wait>(
     rt: &R,
     flight: &mut L,
     alloc: Global,

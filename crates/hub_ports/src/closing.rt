@@ -10,7 +10,7 @@ ghost use Rattle.hub_ports.specs.Seats.{end_of};
 use crate::port::Port;
 use hub_depot::Depot;
 use hub_envelope::{Draft, EndId, MAX_PORTS};
-use hub_locked::{Hears, Unheard};
+use hub_locked::{Hears, NoHearer};
 use hub_queue::{Grave, LeftLine, Onward, PostError, Posted, Poster, ShutQueue, Taker};
 use std::alloc::Global;
 use std::array;
@@ -176,7 +176,7 @@ impl Closings {
 fn post_notice<R: Wait>(rt: &R, alloc: Global, yard: &Depot<Onward>, poster: &mut Poster) -> Noticed
     ensures { IsNoticed poster.old poster.new result }
 {
-    let Ok(draft) = Draft::new_notice(alloc) else {
+    let Ok(draft) = Draft::new_closing_notice(alloc) else {
         return Noticed::OutOfMemory;
     };
     match poster.post(rt, yard, draft) {
@@ -188,7 +188,7 @@ fn post_notice<R: Wait>(rt: &R, alloc: Global, yard: &Depot<Onward>, poster: &mu
 }
 
 /// Posts the notice, and tells of it.
-fn post_notice_and_tell_hearer<H: Hears<ClosingStep>, R: Wait>(
+fn post_notice_and_report_step<H: Hears<ClosingStep>, R: Wait>(
     rt: &R,
     alloc: Global,
     yard: &Depot<Onward>,
@@ -205,7 +205,7 @@ fn post_notice_and_tell_hearer<H: Hears<ClosingStep>, R: Wait>(
 }
 
 /// Closes the own end of a port, and tells of it.
-fn close_taker_and_tell_hearer<H: Hears<ClosingStep>, R: Wait>(
+fn close_taker_and_report_step<H: Hears<ClosingStep>, R: Wait>(
     rt: &R,
     taker: Taker,
     heard: &mut H,
@@ -235,8 +235,8 @@ pub fn close_port_telling_each_step<H: Hears<ClosingStep>, R: Wait>(
         ++ ClosingStep.Notice result.2 ∷ ClosingStep.Close (end_of port) ∷ []) (H.told heard.old) }
 {
     let (taker, mut poster) = port.into_taker_and_poster();
-    let noticed = post_notice_and_tell_hearer(rt, alloc, yard, &mut poster, heard);
-    let grave = close_taker_and_tell_hearer(rt, taker, heard);
+    let noticed = post_notice_and_report_step(rt, alloc, yard, &mut poster, heard);
+    let grave = close_taker_and_report_step(rt, taker, heard);
     (grave, Spent { poster }, noticed)
 }
 
@@ -250,7 +250,7 @@ pub(crate) fn put_notice_and_close_port<R: Wait>(
     ensures grave { IsClosed port.taker result.0 }
     ensures notice { IsNoticed port.poster result.1 result.2 }
 {
-    close_port_telling_each_step(rt, alloc, yard, port, &mut Unheard)
+    close_port_telling_each_step(rt, alloc, yard, port, &mut NoHearer)
 }
 
 /// Closes the ports of a list in order, and keeps of each what shows it.

@@ -13,7 +13,7 @@ ghost use Rattle.hub_ports.specs.Closing.{AreToldEmptied};
 use crate::closing::{Noticed, Spent, put_notice_and_close_port};
 use crate::error::SendRefusal;
 use crate::port::Port;
-use hub_depot::{Depot, DepotError, Kept, Key, put_into_lent_map, take_from_lent_map};
+use hub_depot::{Depot, DepotError, KeptMap, Key, put_into_lent_map, take_from_lent_map};
 use hub_envelope::{EndId, LineId};
 use hub_locked::{Hears, Lends};
 use hub_queue::{Grave, Onward, Swept};
@@ -33,7 +33,7 @@ pub(crate) fn flight_key(end: EndId) -> Key
 
 /// Puts the ports of a list in flight, from the last to the first, so that what is still in hand is
 /// always a beginning of the list. After an error the port that was refused is the last in hand.
-pub(crate) fn put_ports_in_flight<L: Lends<Kept<Port>>, R: Wait>(
+pub(crate) fn put_ports_in_flight<L: Lends<KeptMap<Port>>, R: Wait>(
     rt: &R,
     flight: &mut L,
     ports: &mut Vec<Port>,
@@ -65,7 +65,7 @@ pub(crate) fn put_ports_in_flight<L: Lends<Kept<Port>>, R: Wait>(
 
 /// Takes the ports of a list back from flight, in order. Those that it begins with are in hand
 /// still.
-pub(crate) fn take_ports_back_from_flight<L: Lends<Kept<Port>>, R: Wait>(
+pub(crate) fn take_ports_back_from_flight<L: Lends<KeptMap<Port>>, R: Wait>(
     rt: &R,
     flight: &mut L,
     numbers: &[EndId],
@@ -103,7 +103,7 @@ pub fn close_and_sweep_all_flight_ports<H: Hears<(Swept, Option<(Spent, Noticed)
     alloc: Global,
     yard: &Depot<Onward>,
     grave: Option<Grave>,
-    flight: &mut Kept<Port>,
+    flight: &mut KeptMap<Port>,
     heard: &mut H,
 ) -> Result<(), Grave>
     ensures all { OnOk result (flight.new ≡ map.empty) }

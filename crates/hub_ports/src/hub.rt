@@ -11,7 +11,7 @@ use crate::flight::close_and_sweep_all_flight_ports;
 use crate::port::Port;
 use hub_depot::Depot;
 use hub_envelope::{EndId, Envelope, OutOfMemory};
-use hub_locked::Unheard;
+use hub_locked::NoHearer;
 use hub_queue::{Bell, Ends, Grave, Mailbox, Onward, Poster, Taker};
 use std::alloc::Global;
 use std::sync::{Mutex, Wait};
@@ -78,7 +78,7 @@ impl Hub {
             alloc,
             grave,
         } = self;
-        let mut kept = flight.into_kept();
+        let mut kept = flight.into_map();
         let grave = grave.into_inner();
         let ended = close_and_sweep_all_flight_ports(
             rt,
@@ -86,13 +86,13 @@ impl Hub {
             &yard,
             grave,
             &mut kept,
-            &mut Unheard,
+            &mut NoHearer,
         );
         let Err(grave) = ended else {
             return Ok(());
         };
         let hub = Hub {
-            flight: Depot::from_kept(kept),
+            flight: Depot::from_map(kept),
             yard,
             alloc,
             grave: Mutex::new(Some(grave)),

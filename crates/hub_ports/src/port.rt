@@ -88,7 +88,7 @@ impl Port {
     }
 
     /// How many queues there are from the taker's to the newest, that one not counted.
-    pub fn count_queues_to_newest(&self) -> u32
+    pub fn count_retired_queues(&self) -> u32
         ensures { result ≡ length self.now.taker.retired }
     {
         self.taker.behind()

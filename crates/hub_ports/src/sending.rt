@@ -15,7 +15,7 @@ use crate::flight::{put_ports_in_flight, take_ports_back_from_flight};
 use crate::hub::Hub;
 use crate::parcel::Parcel;
 use crate::port::Port;
-use hub_depot::Kept;
+use hub_depot::KeptMap;
 use hub_envelope::{AgentId, Body, EndId, MAX_PORTS, OutOfMemory, Ports};
 use hub_locked::Lends;
 use hub_queue::{Head, Posted, Poster};
@@ -84,7 +84,7 @@ fn send_without_ports<R: Wait>(
 
 /// Posts a parcel with at most so many ports as an envelope may have, over a flight that anybody
 /// lends. What giving them back wants is reserved before the first is in flight.
-fn put_in_flight_and_post<L: Lends<Kept<Port>>, R: Wait>(
+fn put_in_flight_and_post<L: Lends<KeptMap<Port>>, R: Wait>(
     rt: &R,
     hub: &Hub,
     flight: &mut L,
@@ -145,7 +145,7 @@ fn put_in_flight_and_post<L: Lends<Kept<Port>>, R: Wait>(
 // It is no part of `send_parcel_over_line`, so that a post without ports doesn't pay for the room
 // that a list takes on the stack.
 #[inline(never)]
-pub fn send_with_ports<L: Lends<Kept<Port>>, R: Wait>(
+pub fn send_with_ports<L: Lends<KeptMap<Port>>, R: Wait>(
     rt: &R,
     hub: &Hub,
     flight: &mut L,

@@ -60,7 +60,7 @@ pub extern "C" fn varukoni_fan_line(
     let Ok(mut opened) = Box::new(alloc, Resource::Gone) else {
         return NO_MEMORY;
     };
-    let mut resource = handle.take(alloc);
+    let mut resource = handle.take_resource(alloc);
     let status = resource.open_line(&mut opened, line);
     *handle = Handle::new_open(resource);
     if status == DONE {
@@ -79,7 +79,7 @@ pub extern "C" fn varukoni_fan_start(alloc: Global, handle: &mut Handle) -> u8
     if !handle.is_open {
         return WRONG_STATE;
     }
-    let mut resource = handle.take(alloc);
+    let mut resource = handle.take_resource(alloc);
     let status = resource.start_fan();
     *handle = Handle::new_open(resource);
     status
@@ -107,7 +107,7 @@ pub extern "C" fn varukoni_fan_take(
     if !handle.is_open {
         return WRONG_STATE;
     }
-    let mut resource = handle.take(alloc);
+    let mut resource = handle.take_resource(alloc);
     let status = resource.take_from_fan(message, line);
     *handle = Handle::new_open(resource);
     status
@@ -130,7 +130,7 @@ pub extern "C" fn varukoni_fan_arm(
     if !handle.is_open {
         return WRONG_STATE;
     }
-    let mut resource = handle.take(alloc);
+    let mut resource = handle.take_resource(alloc);
     let status = resource.arm_fan(token, old);
     *handle = Handle::new_open(resource);
     status
@@ -146,7 +146,7 @@ pub extern "C" fn varukoni_fan_close(alloc: Global, handle: &mut Handle, own: &m
     if !handle.is_open {
         return WRONG_STATE;
     }
-    let mut resource = handle.take(alloc);
+    let mut resource = handle.take_resource(alloc);
     let status = resource.close_fan(own);
     *handle = Handle::new_open(resource);
     status
@@ -171,7 +171,7 @@ pub extern "C" fn varukoni_fan_drain(
     if !handle.is_open {
         return WRONG_STATE;
     }
-    let mut resource = handle.take(alloc);
+    let mut resource = handle.take_resource(alloc);
     let status = resource.take_leftover_message_of_fan(message, line);
     *handle = Handle::new_open(resource);
     status

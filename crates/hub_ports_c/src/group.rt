@@ -49,8 +49,8 @@ pub extern "C" fn varukoni_group_join(
     if !handle.is_open || !poster.is_open {
         return WRONG_STATE;
     }
-    let mut resource = handle.take(alloc);
-    let mut joining = poster.take(alloc);
+    let mut resource = handle.take_resource(alloc);
+    let mut joining = poster.take_resource(alloc);
     let status = resource.add_group_member(&mut joining, member);
     *handle = Handle::new_open(resource);
     if status != DONE {
@@ -71,7 +71,7 @@ pub extern "C" fn varukoni_group_count(alloc: Global, handle: &mut Handle, count
     if !handle.is_open {
         return WRONG_STATE;
     }
-    let resource = handle.take(alloc);
+    let resource = handle.take_resource(alloc);
     let status = resource.member_count(count);
     *handle = Handle::new_open(resource);
     status
@@ -97,7 +97,7 @@ pub extern "C" fn varukoni_group_cast(
     if !handle.is_open {
         return WRONG_STATE;
     }
-    let mut resource = handle.take(alloc);
+    let mut resource = handle.take_resource(alloc);
     let status = resource.cast(source, message, answers);
     *handle = Handle::new_open(resource);
     status
@@ -120,7 +120,7 @@ pub extern "C" fn varukoni_group_leave(
     if !handle.is_open {
         return WRONG_STATE;
     }
-    let mut resource = handle.take(alloc);
+    let mut resource = handle.take_resource(alloc);
     let status = resource.remove_member(member, wake);
     *handle = Handle::new_open(resource);
     status

@@ -46,7 +46,7 @@ impl Handle {
     }
 
     /// Takes what an open handle holds out of it, which is closed then.
-    pub(crate) fn take(&mut self, alloc: Global) -> Box<Resource>
+    pub(crate) fn take_resource(&mut self, alloc: Global) -> Box<Resource>
         requires { self.old.is_open ≡ true }
         ensures { (Some result.value ≡ self.old.slot.held) × (self.new.slot.held ≡ None) }
     {

@@ -10,7 +10,7 @@ ghost use Rattle.hub_ports_c.specs.Resources.{TakesMessage, TakesLast, TakesNone
 use crate::handle::Handle;
 use crate::resource::{Message, Resource};
 use crate::status::{DONE, NO_MEMORY, WRONG_STATE};
-use hub_channel::open_channel;
+use hub_channel::new_pair_of_channel_ports;
 use std::alloc::Global;
 
 /// Opens the two ports of a channel in two closed handles. The host names the channel.
@@ -29,7 +29,7 @@ pub extern "C" fn varukoni_channel_open(
     if left.is_open || right.is_open {
         return WRONG_STATE;
     }
-    let Ok((one, other)) = open_channel(alloc, name) else {
+    let Ok((one, other)) = new_pair_of_channel_ports(alloc, name) else {
         return NO_MEMORY;
     };
     let Ok(one) = Box::new(alloc, Resource::Port(one)) else {
@@ -61,8 +61,8 @@ pub extern "C" fn varukoni_port_post(
     if !handle.is_open {
         return WRONG_STATE;
     }
-    let mut resource = handle.take(alloc);
-    let status = resource.post(message, wake);
+    let mut resource = handle.take_resource(alloc);
+    let status = resource.post_at_port(message, wake);
     *handle = Handle::new_open(resource);
     status
 }
@@ -86,8 +86,8 @@ pub extern "C" fn varukoni_port_take(
     if !handle.is_open {
         return WRONG_STATE;
     }
-    let mut resource = handle.take(alloc);
-    let status = resource.take(message);
+    let mut resource = handle.take_resource(alloc);
+    let status = resource.take_from_port(message);
     *handle = Handle::new_open(resource);
     status
 }
@@ -102,8 +102,8 @@ pub extern "C" fn varukoni_port_start(alloc: Global, handle: &mut Handle) -> u8
     if !handle.is_open {
         return WRONG_STATE;
     }
-    let mut resource = handle.take(alloc);
-    let status = resource.start();
+    let mut resource = handle.take_resource(alloc);
+    let status = resource.start_port();
     *handle = Handle::new_open(resource);
     status
 }
@@ -125,8 +125,8 @@ pub extern "C" fn varukoni_port_arm(
     if !handle.is_open {
         return WRONG_STATE;
     }
-    let mut resource = handle.take(alloc);
-    let status = resource.arm(token, old);
+    let mut resource = handle.take_resource(alloc);
+    let status = resource.arm_port(token, old);
     *handle = Handle::new_open(resource);
     status
 }
@@ -148,8 +148,8 @@ pub extern "C" fn varukoni_port_adopt(
     if !handle.is_open {
         return WRONG_STATE;
     }
-    let mut resource = handle.take(alloc);
-    let status = resource.adopt(token, old);
+    let mut resource = handle.take_resource(alloc);
+    let status = resource.adopt_port(token, old);
     *handle = Handle::new_open(resource);
     status
 }
@@ -171,8 +171,8 @@ pub extern "C" fn varukoni_port_close(
     if !handle.is_open {
         return WRONG_STATE;
     }
-    let mut resource = handle.take(alloc);
-    let status = resource.close(own, peer);
+    let mut resource = handle.take_resource(alloc);
+    let status = resource.close_port(own, peer);
     *handle = Handle::new_open(resource);
     status
 }
@@ -194,7 +194,7 @@ pub extern "C" fn varukoni_port_drain(
     if !handle.is_open {
         return WRONG_STATE;
     }
-    let mut resource = handle.take(alloc);
+    let mut resource = handle.take_resource(alloc);
     let status = resource.take_leftover_message(message);
     *handle = Handle::new_open(resource);
     status
@@ -211,7 +211,7 @@ pub extern "C" fn varukoni_port_name(alloc: Global, handle: &mut Handle, name: &
     if !handle.is_open {
         return WRONG_STATE;
     }
-    let resource = handle.take(alloc);
+    let resource = handle.take_resource(alloc);
     let status = resource.channel_name(name);
     *handle = Handle::new_open(resource);
     status

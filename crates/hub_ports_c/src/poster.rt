@@ -28,7 +28,7 @@ pub extern "C" fn varukoni_poster_post(
     if !handle.is_open {
         return WRONG_STATE;
     }
-    let mut resource = handle.take(alloc);
+    let mut resource = handle.take_resource(alloc);
     let status = resource.post_over_line_of_fan(message, wake);
     *handle = Handle::new_open(resource);
     status
@@ -44,7 +44,7 @@ pub extern "C" fn varukoni_poster_close(alloc: Global, handle: &mut Handle, wake
     if !handle.is_open {
         return WRONG_STATE;
     }
-    let mut resource = handle.take(alloc);
+    let mut resource = handle.take_resource(alloc);
     let status = resource.close_poster(wake);
     if status == WRONG_STATE {
         *handle = Handle::new_open(resource);

@@ -55,7 +55,7 @@ impl Resource {
 
     /// Posts a message.
     #[inline(always)]
-    pub(crate) fn post(&mut self, message: &Message, wake: &mut u64) -> u8
+    pub(crate) fn post_at_port(&mut self, message: &Message, wake: &mut u64) -> u8
         ensures posted { result ≡ 0 → AtPort (PostsMessage message.now) self.old self.new }
         ensures no_memory { result ≡ 3 → AtPort PostsNothing self.old self.new }
         ensures closed { result ≡ 6 → AtPort RefusesClosed self.old self.new }
@@ -78,7 +78,7 @@ impl Resource {
 
     /// Takes a message.
     #[inline(always)]
-    pub(crate) fn take(&mut self, message: &mut Message) -> u8
+    pub(crate) fn take_from_port(&mut self, message: &mut Message) -> u8
         ensures took { result ≡ 0 → AtPort (TakesMessage message.new) self.old self.new }
         ensures empty { result ≡ 1 → AtPort TakesNone self.old self.new }
         ensures ended { result ≡ 2 → AtPort TakesLast self.old self.new }
@@ -103,7 +103,7 @@ impl Resource {
     }
 
     /// Starts a port.
-    pub(crate) fn start(&mut self) -> u8
+    pub(crate) fn start_port(&mut self) -> u8
         ensures started { result ≡ 0 → AtPort (Becomes true) self.old self.new }
         ensures other { result ≡ 5 → (is_open_port self.old ≡ false) × (self.new ≡ self.old) }
         ensures statuses { (result ≡ 0) ⊎ (result ≡ 5) }
@@ -116,7 +116,7 @@ impl Resource {
     }
 
     /// Says by its token whom to wake for a port, and looks into it then.
-    pub(crate) fn arm(&mut self, token: u64, old: &mut u64) -> u8
+    pub(crate) fn arm_port(&mut self, token: u64, old: &mut u64) -> u8
         ensures armed { (result ≡ 5) ⊎ AtPort PostsNothing self.old self.new }
         ensures some { result ≡ 0 → AtPort FindsSome self.old self.new }
         ensures none { result ≡ 1 → AtPort FindsNone self.old self.new }
@@ -131,7 +131,7 @@ impl Resource {
     }
 
     /// Makes a port that of another owner, disabled, and looks into it then.
-    pub(crate) fn adopt(&mut self, token: u64, old: &mut u64) -> u8
+    pub(crate) fn adopt_port(&mut self, token: u64, old: &mut u64) -> u8
         ensures adopted { (result ≡ 5) ⊎ AtPort (Becomes false) self.old self.new }
         ensures some { result ≡ 0 → AtPort FindsSome self.old self.new }
         ensures none { result ≡ 1 → AtPort FindsNone self.old self.new }
@@ -159,7 +159,7 @@ impl Resource {
     }
 
     /// Closes a port, which leaves its grave.
-    pub(crate) fn close(&mut self, own: &mut u64, peer: &mut u64) -> u8
+    pub(crate) fn close_port(&mut self, own: &mut u64, peer: &mut u64) -> u8
         ensures closed { result ≡ 0 → ClosesPort self.old self.new }
         ensures other { result ≡ 5 → (is_open_port self.old ≡ false) × (self.new ≡ self.old)
             × (own.new ≡ own.old) × (peer.new ≡ peer.old) }

@@ -4,7 +4,7 @@ use Rattle.std.specs.Ordering.{eq_by_cmp}
 use Rattle.std.specs.FinMap as map
 use Rattle.std.specs.FinMap.{get-remove}
 use Rattle.std.proofs.lemmas.Map.Views.{tells_apart}
-use Rattle.hub_depot.specs.declared.kept.Key.{Key}
+use Rattle.hub_depot.specs.declared.kept_map.Key.{Key}
 use Rattle.hub_depot.specs.Key.{key_cmp}
 use Rattle.hub_depot.proofs.Keys.{exact_keys, keys_total}
 use Rattle.hub_envelope.specs.declared.envelope.Draft.{Draft}

@@ -6,7 +6,7 @@ use Rattle.std.specs.FinMap.{get-insert}
 use Rattle.std.proofs.lemmas.Option.{slice_get_within, get_or_from_slice_get}
 use Rattle.atomic_blocks.specs.Laid.{WebId}
 use Rattle.atomic_table.specs.Seated.{TableId}
-use Rattle.hub_depot.specs.declared.kept.Key.{Key}
+use Rattle.hub_depot.specs.declared.kept_map.Key.{Key}
 use Rattle.hub_depot.specs.Putting.{with_all, IsTakenAmong}
 use Rattle.hub_depot.proofs.Keys.{keys_total}
 use Rattle.hub_envelope.specs.declared.ids.EndId.{EndId}

@@ -4,7 +4,7 @@ use Rattle.hub_envelope.specs.declared.limits.TheConstants.{MAX_MOVES}
 use Rattle.hub_queue.specs.declared.error.AdoptError.{AdoptError}
 use Rattle.hub_queue.specs.declared.error.AdoptError.TheVariants.{TooManyMoves, Taken, OutOfMemory}
 use Rattle.std.specs.FinMap as map
-use Rattle.hub_depot.specs.declared.kept.Key.{Key}
+use Rattle.hub_depot.specs.declared.kept_map.Key.{Key}
 use Rattle.hub_depot.specs.Key.{key_cmp}
 use Rattle.hub_depot.specs.Putting.{with_all}
 use Rattle.hub_envelope.specs.declared.ids.EndId.{EndId}

@@ -1,7 +1,7 @@
 -- What shows a line that nobody posts over any more, and the newest queue of a closed end.
 use Rattle.std.specs.Prelude.{◌≡◌, List, [], ◌∷◌, ◌++◌, Option, Some, None}
 use Rattle.hub_bell.specs.Seats.{silent}
-use Rattle.hub_depot.specs.declared.kept.Key.{Key}
+use Rattle.hub_depot.specs.declared.kept_map.Key.{Key}
 use Rattle.hub_gate.specs.GateSeats.{EntrySeat}
 use Rattle.hub_queue.specs.declared.store.PutView.{PutView}
 use Rattle.hub_queue.specs.Graves.{GraveSeat}

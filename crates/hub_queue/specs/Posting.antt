@@ -1,7 +1,7 @@
 -- What a post comes to.
 use Rattle.std.specs.Prelude.{◌≡◌, ◌⊎◌, ℕ, zero, suc, ◌+◌, ◌<◌, ◌≤◌, List, [], ◌∷◌, Option, Some, Result, Ok, Err}
 use Rattle.hub_envelope.specs.declared.limits.TheConstants.{MAX_HOPS}
-use Rattle.hub_depot.specs.declared.kept.Key.{Key}
+use Rattle.hub_depot.specs.declared.kept_map.Key.{Key}
 use Rattle.hub_envelope.specs.declared.envelope.Draft.{Draft}
 use Rattle.hub_gate.specs.declared.entry.Refusal.{Refusal}
 use Rattle.hub_gate.specs.declared.entry.Refusal.TheVariants as refusal

@@ -3,7 +3,7 @@ use Rattle.std.specs.Prelude.{◌≡◌, ℕ, List, [], ◌∷◌}
 use Rattle.atomic_blocks.specs.Laid.{WebId}
 use Rattle.atomic_blocks.specs.declared.web.Seat.{Seat}
 use Rattle.crossbeam_queue.specs.declared.seg_queue.Going.{Going}
-use Rattle.hub_depot.specs.declared.kept.Key.{Key}
+use Rattle.hub_depot.specs.declared.kept_map.Key.{Key}
 use Rattle.hub_queue.specs.declared.store.PutView.{PutView}
 use Rattle.hub_queue.specs.declared.store.TakeView.{TakeView}
 use Rattle.hub_queue.specs.declared.store.PassView.{PassView}

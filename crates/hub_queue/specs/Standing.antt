@@ -1,7 +1,7 @@
 -- Where a line stands, and what it has put there.
 use Rattle.std.specs.Prelude.{◌≡◌, ◌+◌, ◌≤◌, List, [], replicate, Option, Some, None}
 use Rattle.hub_envelope.specs.declared.limits.TheConstants.{MAX_HOPS, MAX_MOVES}
-use Rattle.hub_depot.specs.declared.kept.Key.{Key}
+use Rattle.hub_depot.specs.declared.kept_map.Key.{Key}
 use Rattle.hub_bell.specs.Seats.{Done, silent}
 use Rattle.hub_gate.specs.GateRule.{new_line}
 use Rattle.hub_gate.specs.GateSeats.{EntrySeat}

@@ -2,7 +2,7 @@
 use Rattle.std.specs.Prelude.{ℕ, zero, suc, List, [], ◌∷◌, ◌++◌, nat_lt, if◌then◌else◌, Option, Result, Ok, Err}
 use Rattle.std.specs.Option.{option_map}
 use Rattle.hub_envelope.specs.declared.limits.TheConstants.{MAX_HOPS}
-use Rattle.hub_depot.specs.declared.kept.Key.{Key}
+use Rattle.hub_depot.specs.declared.kept_map.Key.{Key}
 use Rattle.hub_envelope.specs.declared.envelope.Draft.{Draft}
 use Rattle.hub_queue.specs.declared.pause.Point.{Point}
 use Rattle.hub_queue.specs.declared.pause.Point.TheVariants.{Before, Inside, Pushed, Hopping}

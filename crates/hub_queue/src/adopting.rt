@@ -15,7 +15,7 @@ use crate::onward::Onward;
 use crate::stand::Stand;
 use crate::taker_queue::TakerQueue;
 use hub_bell::Bell;
-use hub_depot::{DepotError, Kept, Key, Named, put_all_or_none};
+use hub_depot::{DepotError, KeptMap, Key, Named, put_all_or_none};
 use hub_envelope::{EndId, LineId, OutOfMemory};
 use hub_gate::Entry;
 use hub_locked::Lends;
@@ -62,7 +62,7 @@ pub(crate) fn make_onward_for_each_entry(
 
 /// A new queue of the end, whose onward posters lie in the yard. After an error nothing is left of
 /// it, and the yard keeps what it kept.
-pub(crate) fn open_queue_and_put_onwards_in_yard<L: Lends<Kept<Onward>>, R: Wait>(
+pub(crate) fn open_queue_and_put_onwards_in_yard<L: Lends<KeptMap<Onward>>, R: Wait>(
     rt: &R,
     yard: &mut L,
     alloc: Global,

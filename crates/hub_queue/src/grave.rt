@@ -94,7 +94,7 @@ impl Grave {
     ghost use Rattle.hub_queue.specs.Sweeping.{IsSwept, IsSweptOut, IsSweptSoFar, IsWholeChain};
 
     /// The end that was closed.
-    pub fn id(&self) -> EndId
+    pub fn closed_end_id(&self) -> EndId
         ensures { result.0 ≡ self.now.end }
     {
         self.end

@@ -51,7 +51,7 @@ fn put_and_taken_of_line<R: Wait>(
 }
 
 /// Goes in at the gate, compares, and comes out again.
-fn enter_and_compare_put_with_taken<R: Wait>(
+fn compare_put_with_taken_inside_gate<R: Wait>(
     rt: &R,
     stand: &mut Stand,
     queue: &mut TakerQueue,
@@ -89,7 +89,7 @@ pub fn meet<R: Wait>(rt: &R, poster: &mut Poster, taker: &mut Taker) -> Meeting
         return Meeting::Strangers;
     }
     match taker.retired.front_mut() {
-        Some(queue) => enter_and_compare_put_with_taken(rt, stand, queue),
-        None => enter_and_compare_put_with_taken(rt, stand, &mut taker.newest),
+        Some(queue) => compare_put_with_taken_inside_gate(rt, stand, queue),
+        None => compare_put_with_taken_inside_gate(rt, stand, &mut taker.newest),
     }
 }

@@ -8,7 +8,7 @@ ghost use Rattle.hub_queue.specs.Posting.{name_after};
 ghost use Rattle.hub_queue.specs.Standing.{FollowsStand};
 
 use crate::stand::Stand;
-use hub_depot::{Kept, Key, Named, take_from_lent_map};
+use hub_depot::{KeptMap, Key, Named, take_from_lent_map};
 use hub_locked::Lends;
 use std::marker::Model;
 use std::sync::Wait;
@@ -44,7 +44,7 @@ impl Named for Onward {
 }
 
 /// Takes from the yard the stand of the line at the next queue of its end.
-pub(crate) fn take_next_stand_from_yard<L: Lends<Kept<Onward>>, R: Wait>(
+pub(crate) fn take_next_stand_from_yard<L: Lends<KeptMap<Onward>>, R: Wait>(
     rt: &R,
     yard: &mut L,
     name: Key,

@@ -10,7 +10,7 @@ use crate::line_right::Head;
 use crate::onward::Onward;
 use crate::pause::{NoPause, Pause, PauseHearer, Point};
 use crate::stand::{Stand, Tried};
-use hub_depot::{Depot, Kept, Key};
+use hub_depot::{Depot, KeptMap, Key};
 use hub_envelope::{Body, Draft, Ports, Posted};
 use hub_locked::{Hears, Lends};
 use std::marker::Model;
@@ -120,7 +120,7 @@ impl Poster {
     /// it goes on to, and no other. `Moving` comes after `MAX_HOPS` of them, or where the yard has
     /// no stand for the next queue.
     #[inline(always)]
-    pub fn post_with_lent_yard<L: Lends<Kept<Onward>>, H: Hears<Point>, R: Wait>(
+    pub fn post_with_lent_yard<L: Lends<KeptMap<Onward>>, H: Hears<Point>, R: Wait>(
         &mut self,
         rt: &R,
         yard: &mut L,

@@ -22,7 +22,7 @@ use crate::line_right::{Head, LineRight};
 use crate::onward::{Onward, take_next_stand_from_yard};
 use crate::pause::Point;
 use hub_bell::Bell;
-use hub_depot::{Kept, Key};
+use hub_depot::{KeptMap, Key};
 use hub_envelope::{Body, MAX_HOPS, Ports, Posted};
 use hub_gate::{Entered, Entry, Inside, Refusal};
 use hub_locked::{Hears, Lends};
@@ -183,7 +183,7 @@ impl Stand {
     /// most `MAX_HOPS` times. It isn't inlined, so that a post at the queue where its line stands
     /// doesn't pay for it.
     #[inline(never)]
-    pub(crate) fn post_at_later_queue<L: Lends<Kept<Onward>>, H: Hears<Point>, R: Wait>(
+    pub(crate) fn post_at_later_queue<L: Lends<KeptMap<Onward>>, H: Hears<Point>, R: Wait>(
         &mut self,
         rt: &R,
         yard: &mut L,

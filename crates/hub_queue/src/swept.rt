@@ -48,7 +48,7 @@ impl Swept {
     ghost use Rattle.std.specs.Prelude.{◌≡◌};
 
     /// The end that was closed.
-    pub fn id(&self) -> EndId
+    pub fn closed_end_id(&self) -> EndId
         ensures { result.0 ≡ self.now.end }
     {
         self.end

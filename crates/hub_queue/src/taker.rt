@@ -14,7 +14,7 @@ use crate::onward::Onward;
 use crate::pause::Steps;
 use crate::taker_queue::TakerQueue;
 use hub_bell::Bell;
-use hub_depot::{Depot, Kept};
+use hub_depot::{Depot, KeptMap};
 use hub_envelope::{EndId, Envelope, MAX_MOVES};
 use hub_locked::Lends;
 use std::alloc::Global;
@@ -197,7 +197,7 @@ impl Taker {
 
     /// The same, over a yard that anybody lends. Of one that is shown, `Taken` comes
     /// only where it keeps a poster under a name of the new queue.
-    pub fn adopt_with_lent_yard<L: Lends<Kept<Onward>>, R: Wait>(
+    pub fn adopt_with_lent_yard<L: Lends<KeptMap<Onward>>, R: Wait>(
         mut self,
         rt: &R,
         yard: &mut L,

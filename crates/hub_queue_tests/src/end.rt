@@ -206,5 +206,5 @@ fn are_numbered(swept: &Swept, text: &str, count: usize) -> bool {
         }
         next = next.wrapping_add(1);
     }
-    swept.id() == EndId(0) && swept.envelopes().len() == count
+    swept.closed_end_id() == EndId(0) && swept.envelopes().len() == count
 }

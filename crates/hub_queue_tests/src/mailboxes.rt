@@ -13,7 +13,9 @@ use std::sync::Wait;
 fn are_the_last_two(swept: &Swept) -> bool {
     match swept.envelopes() {
         [second, third] => {
-            swept.id() == EndId(0) && is_message(second, 0, 1, "2") && is_message(third, 0, 2, "3")
+            swept.closed_end_id() == EndId(0)
+                && is_message(second, 0, 1, "2")
+                && is_message(third, 0, 2, "3")
         }
         _ => false,
     }

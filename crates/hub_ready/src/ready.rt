@@ -246,12 +246,12 @@ impl Ready {
         ensures only { MarksOfBit bit self.old.listed.items self.old.marks self.new.marks }
     {
         for row in 0..self.listed.len() / BITS + 1 {
-            self.mark_key_of_end_number(row * BITS + bit);
+            self.mark_end_if_listed(row * BITS + bit);
         }
     }
 
     /// Marks the key that is listed under this number, if one is.
-    fn mark_key_of_end_number(&mut self, number: usize)
+    fn mark_end_if_listed(&mut self, number: usize)
         ensures listed { self.new.listed ≡ self.old.listed }
         ensures keeps { KeepsMarks self.old.marks self.new.marks }
         ensures found { (key : ℕ) → slice_index self.old.listed.items number ≡ key + 1

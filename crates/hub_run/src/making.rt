@@ -111,7 +111,7 @@ fn make_agent_seat(
     let (Some(for_loop), Some(for_agent)) = (orders.pop(), orders.pop()) else {
         unreachable!();
     };
-    let (listener, bell) = Listener::open(alloc)?;
+    let (listener, bell) = Listener::new_with_first_bell(alloc)?;
     let seat = Seat {
         number,
         scribe: Scribe::new(alloc, number),
@@ -179,7 +179,7 @@ fn make_queue<R: Wait>(
 }
 
 /// Makes a channel, both of whose ports the agent of that number is to hold.
-fn make_channel_of_agent(
+fn make_message_channel_of_agent(
     alloc: Global,
     ends: &mut Ends,
     bells: &[Bell],
@@ -301,7 +301,7 @@ impl<'s, C: Checkpoint> Made<'s, C> {
     }
 
     /// Makes the channels, both of whose ports go to one agent.
-    fn add_channels(&mut self, alloc: Global, script: &Script) -> Result<(), OutOfMemory>
+    fn add_message_channels(&mut self, alloc: Global, script: &Script) -> Result<(), OutOfMemory>
         requires { self.old.ends.drawn ≡ length (declared_agents script.now) }
         ensures given { OnOk result (Gives (ports_given script.now)
             self.old.agents.items self.new.agents.items) }
@@ -309,7 +309,7 @@ impl<'s, C: Checkpoint> Made<'s, C> {
             ≡ length (declared_agents script.now) + port_count script.now) }
     {
         for declared in script.channels() {
-            let (port, other) = make_channel_of_agent(
+            let (port, other) = make_message_channel_of_agent(
                 alloc,
                 &mut self.ends,
                 &self.bells,
@@ -322,7 +322,7 @@ impl<'s, C: Checkpoint> Made<'s, C> {
     }
 
     /// Makes the broadcast members.
-    fn add_members<R: Wait>(
+    fn add_broadcast_members<R: Wait>(
         &mut self,
         alloc: Global,
         rt: &R,
@@ -360,8 +360,8 @@ impl<'s, C: Checkpoint> Made<'s, C> {
     {
         let mut made = Made::make_empty_agents(alloc, shared, roster, script, checkpoint)?;
         made.add_queues(rt, shared, script)?;
-        made.add_channels(alloc, script)?;
-        made.add_members(alloc, rt, roster, script)?;
+        made.add_message_channels(alloc, script)?;
+        made.add_broadcast_members(alloc, rt, roster, script)?;
         Ok(made)
     }
 }

@@ -40,7 +40,7 @@ const RUNG: &[u32] = &[0, 63, 64, 1_023, 1_024, 4_096, 65_535];
 
 #[test]
 fn a_ring_sets_the_bit_of_its_end(rt: HostRuntime) -> Result<(), Fail> {
-    let (mut listener, mut bell) = Listener::open(rt.alloc())?;
+    let (mut listener, mut bell) = Listener::new_with_first_bell(rt.alloc())?;
     assert_same(&rt, "before a ring", listener.take_rung_groups(), 0);
     for end in RUNG {
         bell.ring(EndId(*end));
@@ -52,7 +52,7 @@ fn a_ring_sets_the_bit_of_its_end(rt: HostRuntime) -> Result<(), Fail> {
 
 #[test]
 fn rings_of_two_bells_are_found_together(rt: HostRuntime) {
-    let (mut listener, mut bell) = Listener::open(rt.alloc()).expect(&rt, "memory");
+    let (mut listener, mut bell) = Listener::new_with_first_bell(rt.alloc()).expect(&rt, "memory");
     let mut other = listener.new_bell().expect(&rt, "memory");
     bell.ring(EndId(7));
     other.ring(EndId(5));
@@ -71,7 +71,7 @@ fn rings_of_two_bells_are_found_together(rt: HostRuntime) {
 
 #[test]
 fn nobody_sleeps_who_was_rung_or_woken(rt: HostRuntime) -> Result<(), Fail> {
-    let (mut listener, mut bell) = Listener::open(rt.alloc())?;
+    let (mut listener, mut bell) = Listener::new_with_first_bell(rt.alloc())?;
     bell.ring(EndId(9));
     listener.sleep(&rt);
     listener.sleep(&rt);
@@ -110,8 +110,8 @@ fn rounds<R: Wait>(rt: &R, mut listener: Listener, mut other: Bell, begins: bool
 
 #[test]
 fn two_threads_ring_each_other_awake(rt: HostRuntime) -> Result<(), Fail> {
-    let (one, to_one) = Listener::open(rt.alloc())?;
-    let (two, to_two) = Listener::open(rt.alloc())?;
+    let (one, to_one) = Listener::new_with_first_bell(rt.alloc())?;
+    let (two, to_two) = Listener::new_with_first_bell(rt.alloc())?;
     let (first, second) = thread::join(
         &rt,
         || rounds(&rt, one, to_two, true),
@@ -124,9 +124,9 @@ fn two_threads_ring_each_other_awake(rt: HostRuntime) -> Result<(), Fail> {
 /// It passes whichever allocation is refused: the next call has the memory.
 #[test]
 fn opens_a_listener_whichever_allocation_is_refused(rt: HostRuntime) -> Result<(), Fail> {
-    let (mut listener, mut bell) = match Listener::open(rt.alloc()) {
+    let (mut listener, mut bell) = match Listener::new_with_first_bell(rt.alloc()) {
         Ok(made) => made,
-        Err(_) => Listener::open(rt.alloc())?,
+        Err(_) => Listener::new_with_first_bell(rt.alloc())?,
     };
     bell.ring(EndId(1));
     assert_same(&rt, "after a ring", rung(&mut listener), Some(1));

@@ -1,7 +1,7 @@
 ghost use Rattle.std.specs.Prelude.{◌<◌};
 
 use crate::assert_same;
-use hub_depot::{Depot, DepotError, Kept, Key, Named};
+use hub_depot::{Depot, DepotError, KeptMap, Key, Named};
 use hub_envelope::{EndId, LineId};
 use std::process::Abort;
 use std::sync::Wait;
@@ -162,7 +162,7 @@ fn depot_keeps_whichever_allocation_is_refused(rt: HostRuntime) {
 /// what was kept before it and after it is there.
 #[test]
 fn kept_changes_nothing_whichever_allocation_is_refused(rt: HostRuntime) -> Result<(), Fail> {
-    let mut kept = Kept::empty(rt.alloc());
+    let mut kept = KeptMap::empty(rt.alloc());
     let mut refused = None;
     for number in 0..60 {
         match kept.put(Ticket::numbered(number)) {
@@ -210,7 +210,7 @@ fn put_passport(rt: &(impl Wait + Abort), depot: &Depot<Passport>, name: Key) {
 }
 
 /// Takes every value out of a map, and frees the map. How many there were.
-fn take_all(mut kept: Kept<Passport>) -> u32 {
+fn take_all(mut kept: KeptMap<Passport>) -> u32 {
     let mut taken = 0u32;
     while let Some(passport) = kept.take_any() {
         let Passport { name: _ } = passport;
@@ -230,7 +230,7 @@ fn keeps_what_may_not_be_dropped(rt: HostRuntime) {
         Some(Passport { name }) => assert_same(&rt, "taken", name, key(3)),
         None => panic!(rt; "it was put"),
     }
-    assert_same(&rt, "left", take_all(depot.into_kept()), 9);
+    assert_same(&rt, "left", take_all(depot.into_map()), 9);
 }
 
 #[test]

@@ -14,7 +14,7 @@ fn a_life_shows_what_it_waits_for(rt: HostRuntime) {
     }
     assert_same(&rt, "state", life.state(), State::Installing);
     assert_same(&rt, "open", life.open_extension_count(), 1);
-    assert!(rt; life.is_handling() && life.has_failed_extension());
+    assert!(rt; life.is_handler_running() && life.has_failed_extension());
 }
 
 /// Two seats of one order.

@@ -40,12 +40,12 @@ abbrev pub object_only : Data → ScriptRead Data
 object_only d = if is_some (as_object d) then Ok d else Err Syntax
 
 -- the JSON object that a text is
-abbrev pub object_in : List ℕ → ScriptRead Data
-object_in text = some_or Syntax (read text) >>= object_only
+abbrev pub json_object_in_text : List ℕ → ScriptRead Data
+json_object_in_text text = some_or Syntax (read text) >>= object_only
 
 -- the form of the object that a text is
 unfoldable pub form_in_text : List ℕ → ScriptRead Form
-form_in_text text = object_in text >>= object_form
+form_in_text text = json_object_in_text text >>= object_form
 
 -- what the bytes of a text line say by themselves
 unfoldable pub form_of : List ℕ → ScriptRead Form

@@ -42,7 +42,7 @@ impl ScriptReader {
     ) -> Result<(), ScriptError>
         ensures { ReadsTo self.new result (after_form (known self.old) form) }
     {
-        self.validate_form(&form)?;
+        self.check_form_against_script_so_far(&form)?;
         self.add_checked_form(alloc, form)
     }
 
@@ -53,7 +53,9 @@ impl ScriptReader {
     {
         match form {
             Form::Agent { kind, origin } => self.add_agent(kind, origin),
-            Form::Channel { first, second, at } => self.add_channel(alloc, first, second, at),
+            Form::Channel { first, second, at } => self.add_message_channel(
+                alloc, first, second, at,
+            ),
             Form::Member { name, at, on } => self.add_member(alloc, name, at, on),
             Form::Action { at, action } => {
                 let agent = self.agent_of_number(at)?;
@@ -78,7 +80,7 @@ impl ScriptReader {
     }
 
     #[tactic(auto, unfolding(crate::specs::Context::adding_channel))]
-    fn add_channel(
+    fn add_message_channel(
         &mut self,
         alloc: Global,
         first: Text,
@@ -89,10 +91,10 @@ impl ScriptReader {
         ensures { ReadsTo self.new result (adding_channel (known self.old) first second at) }
     {
         let at = self.agent_of_number(at)?;
-        let (port, other) = self.next_channel_ports();
+        let (port, other) = self.named_ends_for_next_channel();
         self.declare_held_name(alloc, &first, port, at)?;
         self.declare_held_name(alloc, &second, other, at)?;
-        self.push_channel(DeclaredChannel { at, first, second })
+        self.push_message_channel(DeclaredChannel { at, first, second })
     }
 
     #[tactic(auto, unfolding(crate::specs::Context::adding_member))]
@@ -107,7 +109,7 @@ impl ScriptReader {
         ensures { ReadsTo self.new result (adding_member (known self.old) name at on) }
     {
         let at = self.agent_of_number(at)?;
-        let member = self.next_broadcast_member();
+        let member = self.named_end_for_next_member();
         self.declare_held_name(alloc, &name, member, at)?;
         self.push_broadcast_member(DeclaredMember { at, name, on })
     }
@@ -184,7 +186,7 @@ impl ScriptReader {
                 transfer,
             },
         )?;
-        self.mark_all_released_by_agent(agent, ports.as_slice());
+        self.mark_ports_released_by_agent(agent, ports.as_slice());
         Ok(())
     }
 
@@ -213,7 +215,7 @@ impl ScriptReader {
                 transfer,
             },
         )?;
-        self.mark_all_released_by_agent(agent, ports.as_slice());
+        self.mark_ports_released_by_agent(agent, ports.as_slice());
         Ok(())
     }
 

@@ -78,7 +78,7 @@ impl Keyword {
     }
 
     /// Whether the form with this keyword has a field of that name.
-    pub(crate) fn has_field(self, name: &str) -> bool
+    pub(crate) fn allows_field(self, name: &str) -> bool
         ensures { result ≡ has_name self name.now }
     {
         name == self.word()

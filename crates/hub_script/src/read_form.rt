@@ -5,7 +5,7 @@ ghost use Rattle.std.specs.List.{list_all};
 ghost use Rattle.std.specs.Str.{is_utf8};
 ghost use Rattle.hub_script.specs.Fields.{IsRead};
 ghost use Rattle.hub_script.specs.Form.{fields_in, form_by, form_of, form_with, has_only};
-ghost use Rattle.hub_script.specs.Form.{object_in, form_in_text};
+ghost use Rattle.hub_script.specs.Form.{json_object_in_text, form_in_text};
 ghost use Rattle.hub_script.specs.Shapes.{NUMBER, has_name};
 ghost use Rattle.hub_script.specs.JsonData.{IsWritable, data_in, read_json, json_names};
 ghost use Rattle.hub_text.specs.Reading.{IsReadAs, some_or};
@@ -50,7 +50,7 @@ pub(crate) fn read_form(
 fn parse_form(alloc: Global, scratch: &mut Scratch, text: &str) -> Result<Form, ScriptError>
     ensures { IsRead result (form_in_text text.now) }
 {
-    let line = object_in(alloc, scratch, text)?;
+    let line = json_object_in_text(alloc, scratch, text)?;
     let Some(keyword) = Keyword::first_in_fields_of_object(&line) else {
         return Err(ScriptError::UnknownAction);
     };
@@ -58,12 +58,12 @@ fn parse_form(alloc: Global, scratch: &mut Scratch, text: &str) -> Result<Form, 
 }
 
 /// The JSON object that the text is.
-fn object_in<'a>(
+fn json_object_in_text<'a>(
     alloc: Global,
     scratch: &'a mut Scratch,
     text: &'a str,
 ) -> Result<Value<'a>, ScriptError>
-    ensures says { IsReadAs ScriptError.OutOfMemory data_in result (object_in text.now) }
+    ensures says { IsReadAs ScriptError.OutOfMemory data_in result (json_object_in_text text.now) }
     ensures writable { IfOk result (λ line. IsWritable (value_view line)) }
 {
     let line = read_json_with_numbers_in_range(alloc, scratch, text)?;
@@ -126,14 +126,14 @@ fn read_form_with_known_fields(
     ensures { IsRead result (form_with keyword (data_in line.now)) }
 {
     if has_only_form_fields(keyword, line) {
-        read_form_of_keyword(alloc, keyword, line)
+        read_form_by_keyword(alloc, keyword, line)
     } else {
         Err(ScriptError::Syntax)
     }
 }
 
 /// The form that the keyword's fields make.
-fn read_form_of_keyword(
+fn read_form_by_keyword(
     alloc: Global,
     keyword: Keyword,
     line: &Value<'_>,
@@ -143,7 +143,7 @@ fn read_form_of_keyword(
 {
     match keyword {
         Keyword::Agent => read_agent_form(alloc, line),
-        Keyword::Channel => read_channel_form(alloc, line),
+        Keyword::Channel => read_message_channel_form(alloc, line),
         Keyword::Member => read_member_form(alloc, line),
         Keyword::Post => read_post_form(alloc, line),
         Keyword::Send => read_send_form(alloc, line),
@@ -202,7 +202,7 @@ fn are_all_fields_of_keyword(keyword: Keyword, fields: &[(&str, Value<'_>)]) -> 
     ensures { result ≡ list_all (has_name keyword) (json_names (members_view fields.now)) }
 {
     for field in fields {
-        if !keyword.has_field(field.0) {
+        if !keyword.allows_field(field.0) {
             return false;
         }
     }
@@ -226,7 +226,7 @@ fn read_agent_form(alloc: Global, line: &Value<'_>) -> Result<Form, ScriptError>
     Ok(Form::Agent { kind, origin })
 }
 
-fn read_channel_form(alloc: Global, line: &Value<'_>) -> Result<Form, ScriptError>
+fn read_message_channel_form(alloc: Global, line: &Value<'_>) -> Result<Form, ScriptError>
     ensures { IsRead result (form_by Keyword.Channel (data_in line.now)) }
 {
     let (first, second) = pair_of_texts_in(alloc, line, "channel")?;

@@ -135,7 +135,10 @@ impl Script {
         Ok(())
     }
 
-    pub(crate) fn push_channel(&mut self, channel: DeclaredChannel) -> Result<(), OutOfMemory>
+    pub(crate) fn push_message_channel(
+        &mut self,
+        channel: DeclaredChannel,
+    ) -> Result<(), OutOfMemory>
         requires { line_count self.old < MAX_SCRIPT_LINES }
         ensures { OnOk result (self.new ≡ with_channel self.old channel) }
     {

@@ -50,7 +50,7 @@ pub(crate) struct NameHolder {
 
 impl NameHolder {
     /// That the agent holds what was named.
-    fn new(agent: AgentId, named: NamedEnd) -> NameHolder
+    fn of_agent(agent: AgentId, named: NamedEnd) -> NameHolder
         ensures { result ≡ holding agent named }
     {
         NameHolder {
@@ -179,7 +179,7 @@ impl ScriptReader {
         }
     }
 
-    pub(crate) fn is_name_of_member(&self, name: &Text) -> bool
+    pub(crate) fn is_name_of_broadcast_member(&self, name: &Text) -> bool
         ensures { result ≡ is_member (known self.now) name.now }
     {
         match self.look_up(name) {
@@ -264,7 +264,7 @@ impl ScriptReader {
     }
 
     /// What the ports of the next channel are.
-    pub(crate) fn next_channel_ports(&self) -> (NamedEnd, NamedEnd)
+    pub(crate) fn named_ends_for_next_channel(&self) -> (NamedEnd, NamedEnd)
         requires { has_room (known self.now) ≡ true }
         ensures { result
             ≡ (next_port (known self.now).script, second_port (known self.now).script) }
@@ -285,7 +285,7 @@ impl ScriptReader {
     }
 
     /// What the next member is.
-    pub(crate) fn next_broadcast_member(&self) -> NamedEnd
+    pub(crate) fn named_end_for_next_member(&self) -> NamedEnd
         ensures { result ≡ next_broadcast_member (known self.now).script }
     {
         let members = self.script.broadcast_members().len();
@@ -306,12 +306,15 @@ impl ScriptReader {
         Ok(())
     }
 
-    pub(crate) fn push_channel(&mut self, channel: DeclaredChannel) -> Result<(), ScriptError>
+    pub(crate) fn push_message_channel(
+        &mut self,
+        channel: DeclaredChannel,
+    ) -> Result<(), ScriptError>
         requires { has_room (known self.old) ≡ true }
         ensures { ReadsTo self.new result
             (Ok (with_script (known self.old) (with_channel (known self.old).script channel))) }
     {
-        self.script.push_channel(channel)?;
+        self.script.push_message_channel(channel)?;
         Ok(())
     }
 
@@ -345,7 +348,7 @@ impl ScriptReader {
         ensures { ReadsTo self.new result
             (Ok (with_holds (known self.old) (taking_more (holding agent named)))) }
     {
-        self.held.insert(NameHolder::new(agent, named))?;
+        self.held.insert(NameHolder::of_agent(agent, named))?;
         Ok(())
     }
 
@@ -353,11 +356,11 @@ impl ScriptReader {
     pub(crate) fn mark_released_by_agent(&mut self, agent: AgentId, named: NamedEnd)
         ensures { known self.new ≡ with_holds (known self.old) (giving (holding agent named)) }
     {
-        self.held.remove(&NameHolder::new(agent, named));
+        self.held.remove(&NameHolder::of_agent(agent, named));
     }
 
     /// The agent doesn't hold the ports any more.
-    pub(crate) fn mark_all_released_by_agent(&mut self, agent: AgentId, ports: &[NamedEnd])
+    pub(crate) fn mark_ports_released_by_agent(&mut self, agent: AgentId, ports: &[NamedEnd])
         ensures { known self.new ≡ with_holds (known self.old) (giving_all agent ports.now) }
     {
         let mut rest = ports;

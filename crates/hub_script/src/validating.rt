@@ -65,7 +65,7 @@ impl ScriptReader {
     ghost use Rattle.hub_script.specs.Reader.{known};
 
     /// Makes the tests of the form. What is left of its body or URL is tested when it is added.
-    pub(crate) fn validate_form(&self, form: &Form) -> Result<(), ScriptError>
+    pub(crate) fn check_form_against_script_so_far(&self, form: &Form) -> Result<(), ScriptError>
         ensures says { IsRead result (run (tests (known self.now) form.now)) }
         ensures room { OnOk result (has_room (known self.now) ≡ true) }
         ensures within { OnOk result (is_within (known self.now) form.now ≡ true) }
@@ -201,7 +201,7 @@ impl ScriptReader {
             Form::Action {
                 action: ActionForm::Cast { member, .. },
                 ..
-            } => self.is_name_of_member(member),
+            } => self.is_name_of_broadcast_member(member),
             _ => true,
         }
     }

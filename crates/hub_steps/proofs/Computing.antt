@@ -26,7 +26,7 @@ use Rattle.hub_steps.specs.declared.step_line.StepLine.{StepLine}
 use Rattle.hub_steps.specs.Computation.{Computation, MayGive, pair, pure, ask, ask_then, step, step_then, ◌>>=◌}
 use Rattle.hub_steps.specs.Performed.{ComputesAt, PerformsAt}
 use Rattle.hub_steps.specs.Lives.{AllLives}
-use Rattle.hub_steps.specs.Unfolding.{sender_of, over_line, on_line_of, enter, go_on, send_inside, send, post_listing, post_count, post_may, post, start_made, then_start, start_if_worker_queue, start_adopted, adopt, sender_putting_notice, tell_inside, tell, shown_by_closing_outcomes, close_on, close, close_each, close_ports, close_swept, sweep, core_steps, cast_inside, line_zero, cast_over, cast_each, cast_all, cast}
+use Rattle.hub_steps.specs.Unfolding.{sender_of, over_line, on_line_of, enter, go_on, send_inside, send, post_listing, post_count, post_may, post, start_made, then_start, start_if_worker_queue, start_adopted, adopt, line_for_closing_notice, tell_inside, tell, shown_by_closing_outcomes, close_on, close, close_each, close_ports, close_swept, sweep, core_steps, cast_inside, line_zero, cast_over, cast_each, cast_all, cast}
 use Rattle.hub_steps.specs.declared.shown.CastPost.{CastPost}
 
 -- ---- computations in general
@@ -197,12 +197,12 @@ doomed old new refused ports given_ports body s same did =
 
 -- ---- the closing of an end
 
-pub closed_on : (old first second new : Core) (refused : Bool) (e : EndId) (s : Sender) (told left answer : Outcome) → ((h : History) → Shows old h → Some s ≡ sender_putting_notice e (facts h)) → ComputesAt old first (tell refused s) told
+pub closed_on : (old first second new : Core) (refused : Bool) (e : EndId) (s : Sender) (told left answer : Outcome) → ((h : History) → Shows old h → Some s ≡ line_for_closing_notice e (facts h)) → ComputesAt old first (tell refused s) told
     → ComputesAt first second (step refused (action.Leave s)) left → ComputesAt second new (step refused (action.Close e)) answer → ComputesAt old new (close refused e) (shown_by_closing_outcomes told answer)
 closed_on old first second new refused e s told left answer is a b c =
     let shown : Shown = shown_by_closing_outcomes told answer in
     let last : Outcome → Computation Shown = λ t. step refused (action.Close e) >>= λ k. pure (shown_by_closing_outcomes t k) in
-    asked_then old new (sender_putting_notice e) (close_on refused e) (Some s) shown is
+    asked_then old new (line_for_closing_notice e) (close_on refused e) (Some s) shown is
     (chained old first new (tell refused s) (λ t. step refused (action.Leave s) >>= λ l. last t) told shown a
     (chained first second new (step refused (action.Leave s)) (λ l. last told) left shown b
     (shown_as second new (step refused (action.Close e)) (shown_by_closing_outcomes told) answer c)))

@@ -101,8 +101,8 @@ enter (suc n) refused s = do
 -- ---- the closing of an end
 
 -- the line on which the closing of a port puts its notice, where a Close would be answered Done; no other end has one
-abbrev pub sender_putting_notice : EndId → Facts → Option Sender
-sender_putting_notice e f = if may_close f e.0 then sender_of (Port e) f else None
+abbrev pub line_for_closing_notice : EndId → Facts → Option Sender
+line_for_closing_notice e f = if may_close f e.0 then sender_of (Port e) f else None
 
 -- What follows the last Enter of a closing: inside, the Push of the notice.
 abbrev pub tell_inside : Bool → Sender → Outcome → Computation Outcome
@@ -133,7 +133,7 @@ close_on refused e (Some s) = do
 -- a client's or worker's queue or a broadcast channel, and where the Close would be answered Closed or NotNow, that is the only step.
 abbrev pub close : Bool → EndId → Computation Shown
 close refused e = do
-  line ← ask (sender_putting_notice e)
+  line ← ask (line_for_closing_notice e)
   close_on refused e line
 
 -- the closing of each, in order, with hops counted anew; it isn't shown

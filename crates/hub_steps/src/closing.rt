@@ -6,7 +6,7 @@ ghost use Rattle.hub_core.specs.History.{History};
 ghost use Rattle.hub_core.specs.Shows.{Shows};
 ghost use Rattle.hub_steps.specs.Performed.{ComputesAt};
 ghost use Rattle.hub_steps.specs.Unfolding.{close, close_each, close_ports};
-ghost use Rattle.hub_steps.specs.Unfolding.{sender_putting_notice, shown_by_closing_outcomes};
+ghost use Rattle.hub_steps.specs.Unfolding.{line_for_closing_notice, shown_by_closing_outcomes};
 ghost use Rattle.hub_steps.specs.Unfolding.{sweep, tell};
 
 use crate::entering::{
@@ -22,7 +22,7 @@ pub fn close_end(core: &mut Core, end: EndId, memory_refused: bool) -> Result<Sh
     ensures { IfOk result (λ shown.
         ComputesAt core.old core.new (close memory_refused end) shown) }
 {
-    let Some(line) = sender_putting_notice(core, end) else {
+    let Some(line) = line_for_closing_notice(core, end) else {
         return take_step_and_return_shown(core, Action::Close(end), memory_refused);
     };
     let told = enter_and_put_notice(core, line, memory_refused)?;
@@ -33,8 +33,8 @@ pub fn close_end(core: &mut Core, end: EndId, memory_refused: bool) -> Result<Sh
 
 /// The line on which the closing of a port puts its notice, where its Close would be answered
 /// `Done` now. No other end has one.
-fn sender_putting_notice(core: &Core, end: EndId) -> Option<Sender>
-    ensures { (h : History) → Shows core.now h → result ≡ sender_putting_notice end (facts h) }
+fn line_for_closing_notice(core: &Core, end: EndId) -> Option<Sender>
+    ensures { (h : History) → Shows core.now h → result ≡ line_for_closing_notice end (facts h) }
 {
     if core.may_close(end) {
         core.line_port_posts_on(end)
@@ -84,7 +84,7 @@ pub fn close_listed_ends(
 }
 
 /// Sweeps an end, and closes each end that the discarded envelopes name, in order.
-pub fn sweep_end_and_close_named_ports(
+pub fn sweep_end_and_close_discarded_ports(
     core: &mut Core,
     end: EndId,
     memory_refused: bool,

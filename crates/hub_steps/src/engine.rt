@@ -12,7 +12,8 @@ use crate::read_step_line::read_step_line;
 use crate::run::{HeldBack, run_step_lines_holding_output_back};
 use crate::step_line::StepLineError;
 use hub_engine::{
-    CountedReader, CountedWriter, Device, Engine, ExitStatus, run_engine, write_input_error,
+    CountedReader, CountedWriter, Device, Engine, ExitStatus, run_engine_on_whole_input,
+    write_input_error,
 };
 use hub_text::split_off_first_text_line;
 use std::alloc::Global;
@@ -31,7 +32,7 @@ pub fn run_steps<R: Read, W: Write>(
     ensures { EndsAnswer R.remaining W.contents IsStepsOutput
         reader.old reader.new writer.old writer.new result }
 {
-    run_engine::<StepsEngine, R, W>(alloc, reader, writer)
+    run_engine_on_whole_input::<StepsEngine, R, W>(alloc, reader, writer)
 }
 
 /// What `run_steps` writes for step lines is a function of them: two texts that they may be
@@ -75,7 +76,7 @@ impl Engine for StepsEngine {
             return write_input_error(alloc, writer, line, error.printed_kind());
         }
         if has_memory {
-            run.run_rest_and_write(alloc, rest, writer)
+            run.run_remaining_step_lines_and_write_all(alloc, rest, writer)
         } else {
             run.finish_output_out_of_memory(writer)
         }

@@ -78,7 +78,7 @@ impl Lives {
     }
 
     /// A new agent has no life yet.
-    pub fn add_agent(&mut self) -> Result<(), OutOfMemory>
+    pub fn add_agent_without_life(&mut self) -> Result<(), OutOfMemory>
         ensures ok { OnOk result (self.new ≡ self.old ++ None ∷ []) }
         ensures err { OnErr result (self.new ≡ self.old) }
     {

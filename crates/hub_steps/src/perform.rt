@@ -10,7 +10,7 @@ ghost use Rattle.hub_steps.specs.Unfolding.{on_line_of, poster_command_takes_mem
 ghost use Rattle.hub_steps.specs.Unfolding.{shown_step, takes_at_most_one_step};
 
 use crate::casting::cast_message;
-use crate::closing::{close_end, sweep_end_and_close_named_ports};
+use crate::closing::{close_end, sweep_end_and_close_discarded_ports};
 use crate::entering::{take_core_step, take_step_and_return_shown};
 use crate::lives::Lives;
 use crate::posting::post_message;
@@ -104,7 +104,7 @@ fn perform_rarer_step_line(
         Command::Loaded(end) => start_if_client_queue(core, end, memory_refused),
         Command::Adopt(end, agent) => adopt_end(core, end, agent, memory_refused),
         Command::Close(end) => close_end(core, end, memory_refused),
-        Command::Sweep(end) => sweep_end_and_close_named_ports(core, end, memory_refused),
+        Command::Sweep(end) => sweep_end_and_close_discarded_ports(core, end, memory_refused),
         Command::See(agent) => stop_agent_if_requested(core, lives, agent, memory_refused),
         Command::Cast(end, ports, body) => cast_message(
             alloc,

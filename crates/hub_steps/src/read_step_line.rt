@@ -14,7 +14,7 @@ use hub_core::Action;
 use hub_envelope::{AgentId, Body, EndId, Items, LineId, Text};
 use hub_life::Event;
 use hub_origin::{OriginError, origin_of};
-use hub_text::{number_of as number_up_to, read_ends, split_at_first_byte, split_word};
+use hub_text::{number_of as number_up_to, read_ends, split_once_at_byte, split_word};
 use serde_json::Value;
 use std::alloc::Global;
 
@@ -166,7 +166,7 @@ fn rarer_command_of(
         → has_part (spelled step) ≡ true) }
 {
     match step {
-        RarerStep::Agent => Ok(Command::Agent(agent_url_in(alloc, one_word(rest)?)?)),
+        RarerStep::Agent => Ok(Command::Agent(origin_of_agent_url(alloc, one_word(rest)?)?)),
         RarerStep::Channel => Ok(Command::Step(Action::Channel(agent_in_rest(rest)?))),
         RarerStep::Client => Ok(Command::Step(Action::Client(agent_in_rest(rest)?))),
         RarerStep::Worker => Ok(Command::Worker(agent_in_rest(rest)?)),
@@ -369,7 +369,7 @@ fn poster_in(word: &str) -> Result<PosterName, StepLineError>
 fn poster_named(word: &str) -> Option<PosterName>
     ensures { result ≡ poster_named word.now }
 {
-    let Some((end, line)) = split_at_first_byte(word, b'/') else {
+    let Some((end, line)) = split_once_at_byte(word, b'/') else {
         return Some(PosterName::Port(EndId(number_read(word)?)));
     };
     let end = EndId(number_read(end)?);
@@ -407,7 +407,7 @@ fn event_in(word: &str) -> Result<Event, StepLineError>
 
 /// The origin of a URL, or why it gives none.
 #[tactic(auto, unfolding(crate::specs::StepLine::url_read))]
-fn agent_url_in(alloc: Global, word: &str) -> Result<AgentUrl, StepLineError>
+fn origin_of_agent_url(alloc: Global, word: &str) -> Result<AgentUrl, StepLineError>
     ensures { IsReadAs StepLineError.OutOfMemory (λ x. x) result (word_read U word.now) }
 {
     if word == "-" {

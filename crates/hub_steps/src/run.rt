@@ -168,7 +168,7 @@ impl StepRun {
     }
 
     /// Runs the step lines that are left, which were tested, and writes the outcome lines of all.
-    pub fn run_rest_and_write<W: Write>(
+    pub fn run_remaining_step_lines_and_write_all<W: Write>(
         &mut self,
         alloc: Global,
         rest: &[u8],

@@ -47,7 +47,7 @@ fn add_agent(
     ensures still { OnErr result (StillShows core.old core.new × (lives.new ≡ lives.old)) }
 {
     // Its life finds room first, so that no agent is made without one.
-    lives.add_agent()?;
+    lives.add_agent_without_life()?;
     match take_core_step(core, Action::Agent(origin), memory_refused) {
         Ok(Outcome::Agent(agent)) => Ok(Shown::Answer(Outcome::Agent(agent))),
         Ok(refused) => {

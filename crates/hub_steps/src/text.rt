@@ -161,12 +161,12 @@ fn write_ends_of_ending_agent(text: &mut String, ends: &[EndId]) -> Result<(), O
         return text.push_str("ending nothing\n");
     }
     text.push_str("ending")?;
-    write_end_numbers(text, ends)?;
+    write_numbers_of_ends(text, ends)?;
     text.push_str("\n")
 }
 
 /// Writes a space and the number of each end.
-fn write_end_numbers(text: &mut String, ends: &[EndId]) -> Result<(), OutOfMemory>
+fn write_numbers_of_ends(text: &mut String, ends: &[EndId]) -> Result<(), OutOfMemory>
     ensures { OnOk result (string_bytes text.new
         ≡ string_bytes text.old ++ numbers_text ends.now) }
 {

@@ -9,7 +9,7 @@ use std::alloc::Global;
 use std::sync::Wait;
 
 fn try_bell(alloc: Global) -> Option<Bell> {
-    let (_, bell) = Listener::open(alloc).ok()?;
+    let (_, bell) = Listener::new_with_first_bell(alloc).ok()?;
     Some(bell)
 }
 

@@ -86,7 +86,7 @@ pub fn release_port<H: Handler + Drop, C: Checkpoint + Drop>(
     event_loop: &mut EventLoop<H, C>,
     end: EndId,
 ) -> Option<Port> {
-    match event_loop.release(end)? {
+    match event_loop.release_end(end)? {
         Held::Port(port) => Some(port),
         held => {
             drop(held);

@@ -75,7 +75,7 @@ fn clones_are_equal(rt: HostRuntime) {
 
 #[test]
 fn makes_notices(rt: HostRuntime) -> Result<(), Fail> {
-    let notice = Draft::new_notice(rt.alloc())?;
+    let notice = Draft::new_closing_notice(rt.alloc())?;
     assert!(rt; notice.notice);
     assert_eq!(rt; notice.agent, AgentId(0));
     assert_eq!(rt; notice.body.text(), "null");

@@ -63,7 +63,7 @@ fn reads_back_what_it_wrote(rt: HostRuntime) -> Result<(), Refused> {
     let Some(last) = logs.last() else {
         return Err(Refused::Wrong);
     };
-    assert_eq!(rt; (logs.len(), last.agent()), (2, AgentId(15)));
+    assert_eq!(rt; (logs.len(), last.agent_id()), (2, AgentId(15)));
     assert_eq!(rt; text_of(alloc, &logs)?.as_str(), SOME_TEXT);
     Ok(())
 }

@@ -9,4 +9,4 @@ mod end_list;
 mod words;
 
 pub use end_list::{EndListText, read_ends};
-pub use words::{number_of, split_at_first_byte, split_off_first_text_line, split_word};
+pub use words::{number_of, split_off_first_text_line, split_once_at_byte, split_word};

@@ -28,7 +28,7 @@ pub fn split_off_first_text_line(bytes: &[u8]) -> (&[u8], &[u8])
 pub fn split_word(text: &str) -> Option<(&str, &str)>
     ensures { option_map (λ x. (x.0.now, x.1.now)) result ≡ cut 32 text.now }
 {
-    split_at_first_byte(text, b' ')
+    split_once_at_byte(text, b' ')
 }
 
 /// What stands before the first such byte and what stands behind it. `None` where there is none.
@@ -36,7 +36,7 @@ pub fn split_word(text: &str) -> Option<(&str, &str)>
 // It is a plain loop over the bytes, since words are short: a search for a character begins more
 // slowly.
 #[inline(always)]
-pub fn split_at_first_byte(text: &str, byte: u8) -> Option<(&str, &str)>
+pub fn split_once_at_byte(text: &str, byte: u8) -> Option<(&str, &str)>
     requires { byte < 128 }
     ensures { option_map (λ x. (x.0.now, x.1.now)) result ≡ cut byte text.now }
 {

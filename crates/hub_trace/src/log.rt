@@ -61,7 +61,7 @@ impl Log {
     }
 
     /// The agent whose log this is.
-    pub fn agent(&self) -> AgentId
+    pub fn agent_id(&self) -> AgentId
         ensures { result ≡ self.now.0 }
     {
         self.agent

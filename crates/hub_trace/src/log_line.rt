@@ -21,7 +21,7 @@ use crate::log_entry::{Delivery, LogEntry};
 use crate::log_version::LogVersion;
 use crate::payload::Payload;
 use hub_envelope::{AgentId, Body, BodyError, EndId, Items, LineId, Posted};
-use hub_text::{number_of, read_ends, split_at_first_byte, split_word};
+use hub_text::{number_of, read_ends, split_once_at_byte, split_word};
 use std::alloc::Global;
 
 /// What a log line below the header says.
@@ -189,7 +189,7 @@ fn split_epoch_and_number(name: &str) -> Result<(&str, &str), LogError>
         (parts_in 58 name.now) }
     ensures memory { IfErr result (λ e. e ≢ LogError.OutOfMemory) }
 {
-    match split_at_first_byte(name, b':') {
+    match split_once_at_byte(name, b':') {
         Some(parts) => Ok(parts),
         None => Err(LogError::BadLine),
     }

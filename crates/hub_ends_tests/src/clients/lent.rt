@@ -4,7 +4,7 @@ use hub_clients::{
     Directory, DirectoryError, Handed, HandedQueue, QueueList, close_handed_queues,
     keep_in_lent_map, open_queue_in_lent_list, take_handed_queue_from_map,
 };
-use hub_depot::{Depot, Kept};
+use hub_depot::{Depot, KeptMap};
 use hub_envelope::{AgentId, EndId, MAX_LINES};
 use hub_locked::{Lends, Locked};
 use hub_queue::{Ends, Grave, Poster};
@@ -73,7 +73,7 @@ fn queue<R: Wait>(rt: &R, alloc: Global, end: u32) -> Option<HandedQueue> {
 }
 
 /// A queue is fetched by the agent that it is for, and by no other. Two others stay.
-fn keeps_queues<L: Lends<Kept<Handed>>, R: Wait>(
+fn keeps_queues<L: Lends<KeptMap<Handed>>, R: Wait>(
     rt: &R,
     alloc: Global,
     lender: &mut L,
@@ -97,14 +97,14 @@ fn are_closed(told: &[Grave], ends: &[u32]) -> bool {
         return false;
     }
     for (grave, end) in told.iter().zip(ends) {
-        if grave.id().0 != *end {
+        if grave.closed_end_id().0 != *end {
             return false;
         }
     }
     true
 }
 
-fn closes_all<R: Wait>(rt: &R, alloc: Global, mut waiting: Kept<Handed>) -> bool {
+fn closes_all<R: Wait>(rt: &R, alloc: Global, mut waiting: KeptMap<Handed>) -> bool {
     let mut told = Vec::<Grave>::new(alloc);
     close_handed_queues(rt, &mut waiting, &mut told);
     let is_right = are_closed(told.as_slice(), &[0, 2]);
@@ -115,11 +115,11 @@ fn closes_all<R: Wait>(rt: &R, alloc: Global, mut waiting: Kept<Handed>) -> bool
 
 #[test]
 fn queues_wait_and_the_end_closes_them(rt: HostRuntime) {
-    let mut own = Kept::<Handed>::empty(rt.alloc());
+    let mut own = KeptMap::<Handed>::empty(rt.alloc());
     let shared = Depot::<Handed>::new(rt.alloc());
     let is_right = keeps_queues(&rt, rt.alloc(), &mut own) == Some(true);
     let is_alike = keeps_queues(&rt, rt.alloc(), &mut shared.as_lock()) == Some(true);
     let are_closed = closes_all(&rt, rt.alloc(), own)
-        && closes_all(&rt, rt.alloc(), shared.into_kept());
+        && closes_all(&rt, rt.alloc(), shared.into_map());
     assert!(rt; is_right && is_alike && are_closed);
 }

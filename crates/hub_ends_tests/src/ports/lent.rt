@@ -1,7 +1,7 @@
 //! A flight and a yard of one's own, and the same behind a lock: posts, arrivals and adoptions
 //! answer alike over both. What is told is kept in a list.
 use crate::ports::{entangled, room};
-use hub_depot::{Depot, Kept};
+use hub_depot::{Depot, KeptMap};
 use hub_envelope::{AgentId, EndId, Envelope, Ports};
 use hub_locked::Lends;
 use hub_ports::{
@@ -28,7 +28,7 @@ fn taken<R: Wait>(rt: &R, taker: &mut Taker) -> Option<Envelope> {
 }
 
 /// How many of the ports that the envelope names are found in flight, and how many are missing.
-fn arrived<L: Lends<Kept<Port>>, R: Wait>(
+fn arrived<L: Lends<KeptMap<Port>>, R: Wait>(
     rt: &R,
     alloc: Global,
     flight: &mut L,
@@ -41,7 +41,7 @@ fn arrived<L: Lends<Kept<Port>>, R: Wait>(
 }
 
 /// A port is sent over a line, and found in flight once.
-fn flies<L: Lends<Kept<Port>>, R: Wait>(
+fn flies<L: Lends<KeptMap<Port>>, R: Wait>(
     rt: &R,
     alloc: Global,
     hub: &Hub,
@@ -78,7 +78,7 @@ fn flies<L: Lends<Kept<Port>>, R: Wait>(
 #[test]
 fn a_port_in_flight_is_found_once(rt: HostRuntime) {
     let hub = Hub::new(rt.alloc());
-    let mut own = Kept::<Port>::empty(rt.alloc());
+    let mut own = KeptMap::<Port>::empty(rt.alloc());
     let is_right = flies(&rt, rt.alloc(), &hub, &mut own) == Some(true);
     let is_alike = flies(&rt, rt.alloc(), &hub, &mut hub.flight.as_lock()) == Some(true);
     drop(own);
@@ -89,7 +89,7 @@ fn a_port_in_flight_is_found_once(rt: HostRuntime) {
 type Emptied = (Swept, Option<(Spent, Noticed)>);
 
 /// A port in flight is closed with its notice, and one in hand too, in order.
-fn closes<R: Wait>(rt: &R, alloc: Global, flight: &mut Kept<Port>) -> Option<bool> {
+fn closes<R: Wait>(rt: &R, alloc: Global, flight: &mut KeptMap<Port>) -> Option<bool> {
     let yard = Depot::<Onward>::new(alloc);
     let mut ends = Ends::new();
     let (near, far) = entangled(alloc, &mut ends)?;
@@ -104,7 +104,7 @@ fn closes<R: Wait>(rt: &R, alloc: Global, flight: &mut Kept<Port>) -> Option<boo
         &mut emptied,
     ).is_ok();
     let is_told = matches!(emptied.as_slice(), [(swept, Some((_, Noticed::Put(_))))]
-        if swept.id() == EndId(1));
+        if swept.closed_end_id() == EndId(1));
     let mut steps = Vec::<ClosingStep>::new(alloc);
     let closed = close_port_telling_each_step(rt, alloc, &yard, near, &mut steps);
     let is_in_order = matches!(
@@ -122,14 +122,14 @@ fn closes<R: Wait>(rt: &R, alloc: Global, flight: &mut Kept<Port>) -> Option<boo
 
 #[test]
 fn each_step_of_a_closing_is_told(rt: HostRuntime) {
-    let mut flight = Kept::<Port>::empty(rt.alloc());
+    let mut flight = KeptMap::<Port>::empty(rt.alloc());
     let is_right = closes(&rt, rt.alloc(), &mut flight) == Some(true);
     drop(flight);
     assert!(rt; is_right);
 }
 
 /// A line whose end has moved goes on over the yard, and the points of its post are told.
-fn hops<L: Lends<Kept<Onward>>, R: Wait>(rt: &R, alloc: Global, yard: &mut L) -> Option<bool> {
+fn hops<L: Lends<KeptMap<Onward>>, R: Wait>(rt: &R, alloc: Global, yard: &mut L) -> Option<bool> {
     let (taker, mut poster) = mailbox(alloc, 0)?;
     let mut told = Vec::<Point>::new(alloc);
     let head = Head {
@@ -166,7 +166,7 @@ fn hops<L: Lends<Kept<Onward>>, R: Wait>(rt: &R, alloc: Global, yard: &mut L) ->
 
 #[test]
 fn a_line_goes_on_over_a_yard_that_is_lent(rt: HostRuntime) {
-    let mut own = Kept::<Onward>::empty(rt.alloc());
+    let mut own = KeptMap::<Onward>::empty(rt.alloc());
     let shared = Depot::<Onward>::new(rt.alloc());
     let is_right = hops(&rt, rt.alloc(), &mut own) == Some(true);
     let is_alike = hops(&rt, rt.alloc(), &mut shared.as_lock()) == Some(true);

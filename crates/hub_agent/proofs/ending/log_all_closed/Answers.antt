@@ -8,9 +8,9 @@ loop-swept-init c = record { ends = ends_none c.args.scribe.now; closes = closes
 
 pub loop-swept-preserved : goal.loop-swept-preserved
 loop-swept-preserved c = record {
-  ends = ends_more _ _ _ c.args.scribe.now c.loop-swept.scribe c.log_closing_notice_and_close_if_held.new.scribe c.loop-swept.invariant.ends c.in_ok-log_closing_notice_and_close_if_held.ensures;
-  closes = closes_more c.args.scribe.now c.loop-swept.scribe c.log_closing_notice_and_close_if_held.new.scribe c.loop-swept.left.keys c.remove-was_held.new.self.keys c.args.held.now c.id-end.result c.remove-notice.result c.remove-was_held.result _
-      c.loop-swept.invariant.closes c.in_ok-log_closing_notice_and_close_if_held.ensures c.remove-was_held.ensures.test c.remove-was_held.ensures.keys (λ x found. at_end c.id-end.result.0 x.0 found);
+  ends = ends_more _ _ _ c.args.scribe.now c.loop-swept.scribe c.log_notice_and_closing_if_held.new.scribe c.loop-swept.invariant.ends c.in_ok-log_notice_and_closing_if_held.ensures;
+  closes = closes_more c.args.scribe.now c.loop-swept.scribe c.log_notice_and_closing_if_held.new.scribe c.loop-swept.left.keys c.remove-was_held.new.self.keys c.args.held.now c.closed_end_id-end.result c.remove-notice.result c.remove-was_held.result _
+      c.loop-swept.invariant.closes c.in_ok-log_notice_and_closing_if_held.ensures c.remove-was_held.ensures.test c.remove-was_held.ensures.keys (λ x found. at_end c.closed_end_id-end.result.0 x.0 found);
 }
 
 pub loop-posted-init : goal.loop-posted-init

@@ -26,12 +26,12 @@ returns-in-Start-clause-ok g c =
 
 pub returns-in-Loaded-clause-ok : goal.returns-in-Loaded-clause-ok
 returns-in-Loaded-clause-ok g c =
-    let loop = c.start_client.new.self in
+    let loop = c.start_client_queue.new.self in
     let now : AgentState = record { notes = c.self.inside.scribe; ends = loop.holding.ends.held; kept = loop.kept; order = c.self.inside.order; peers = c.self.inside.peers.items; life = c.self.inside.life; roster = _ } in
     subst (λ action. Acts action c.args.self.now now) (sym c.in-Loaded.is)
     (loaded_acts c.in-Loaded.queue c.args.self.now now (
-      λ i. record { notes = (c.self.view_is i).notes; ends = loop.holding.ends.held; kept = (ap (λ l. l.kept) c.start_client.ensures.rest ∙ ap (λ (a : AgentState). a.kept) c.self.view_is) i; order = (c.self.view_is i).order; peers = (c.self.view_is i).peers; life = (c.self.view_is i).life; roster = (c.self.view_is i).roster },
-      (c.start_client.result, subst (λ (a : AgentState). StartsClient a.ends loop.holding.ends.held c.in-Loaded.queue c.start_client.result) c.self.view_is c.start_client.ensures.started),
+      λ i. record { notes = (c.self.view_is i).notes; ends = loop.holding.ends.held; kept = (ap (λ l. l.kept) c.start_client_queue.ensures.rest ∙ ap (λ (a : AgentState). a.kept) c.self.view_is) i; order = (c.self.view_is i).order; peers = (c.self.view_is i).peers; life = (c.self.view_is i).life; roster = (c.self.view_is i).roster },
+      (c.start_client_queue.result, subst (λ (a : AgentState). StartsClient a.ends loop.holding.ends.held c.in-Loaded.queue c.start_client_queue.result) c.self.view_is c.start_client_queue.ensures.started),
     ))
 
 pub returns-in-Close-clause-ok : goal.returns-in-Close-clause-ok

@@ -6,7 +6,7 @@ use Rattle.hub_agent.proofs.agent.Agent.add_ports_to_loop.Goals as goal
 pub loop-port-preserved : goal.loop-port-preserved
 loop-port-preserved g c = record {
   same = search rules;
-  held = one_more c.hold.result c.loop-port.held _ c.args.self.now.ends c.loop-port.self.ends c.hold.new.self.ends c.in-Some.port _ _ c.args.ports.items c.and-held.ensures c.in-Some.ensures.steps.0 c.hold.ensures.held c.loop-port.invariant.held;
+  held = one_more c.hold_end_or_line.result c.loop-port.held _ c.args.self.now.ends c.loop-port.self.ends c.hold_end_or_line.new.self.ends c.in-Some.port _ _ c.args.ports.items c.and-held.ensures c.in-Some.ensures.steps.0 c.hold_end_or_line.ensures.held c.loop-port.invariant.held;
 }
 
 pub returns-clause-held : goal.returns-clause-held

@@ -8,5 +8,5 @@ use Rattle.hub_agent.proofs.agent.Agent.ensure_line_to_queue.Goals as goal
 
 pub returns-clause-none : goal.returns-clause-none
 returns-clause-none g c =
-    none_had c.borrow_line_from_directory.result c.args.self.now.ends c.borrow_line_from_directory.new.self.ends c.args.queue c.borrow_line_from_directory.ensures.none
-    (subst (λ (s : Slab Held). HoldsNoLine s c.args.queue) (ap (λ (a : AgentState). a.ends) c.self.view_is) (c.has_line_for_destination.ensures.none c.if-has_line_for_destination.false))
+    none_had c.hold_line_lent_by_directory.result c.args.self.now.ends c.hold_line_lent_by_directory.new.self.ends c.args.queue c.hold_line_lent_by_directory.ensures.none
+    (subst (λ (s : Slab Held). HoldsNoLine s c.args.queue) (ap (λ (a : AgentState). a.ends) c.self.view_is) (c.has_line_posting_to_end.ensures.none c.if-has_line_posting_to_end.false))

@@ -22,7 +22,7 @@ pub returns-clause-own : goal.returns-clause-own
 returns-clause-own g c =
     let came : IsFetched true c.self.inside.event_loop.holding c.fetch.new.self.holding c.args.end = search rules in
     let (epoch, written) = c.in_ok-log_adopted.ensures in
-    fetched_accounts c.args.self.now (record c.args.self.now { notes = c.log_adopted.new.scribe; ends = c.start_client.new.self.holding.ends.held; kept = c.start_client.new.self.kept }) c.self.inside.event_loop.holding c.fetch.new.self.holding c.args.end c.start_client.result
-    (sym (ap (λ (a : AgentState). a.ends) c.self.view_is)) came c.start_client.ensures.started
+    fetched_accounts c.args.self.now (record c.args.self.now { notes = c.log_adopted.new.scribe; ends = c.start_client_queue.new.self.holding.ends.held; kept = c.start_client_queue.new.self.kept }) c.self.inside.event_loop.holding c.fetch.new.self.holding c.args.end c.start_client_queue.result
+    (sym (ap (λ (a : AgentState). a.ends) c.self.view_is)) came c.start_client_queue.ensures.started
     (epoch, written ∙ ap (λ (a : AgentState). log_and a.notes.log (Adopted c.args.end epoch ∷ [])) c.self.view_is)
-    (ap (λ l. l.kept) c.start_client.ensures.rest ∙ ap (λ l. l.kept) c.fetch.ensures.rest ∙ ap (λ (a : AgentState). a.kept) c.self.view_is)
+    (ap (λ l. l.kept) c.start_client_queue.ensures.rest ∙ ap (λ l. l.kept) c.fetch.ensures.rest ∙ ap (λ (a : AgentState). a.kept) c.self.view_is)

@@ -1,4 +1,4 @@
--- `of` moves what the parts own into the slot.
+-- `from_raw_parts` moves what the parts own into the slot.
 use Rattle.std.proofs.Common.{◌≡◌, List, [], ◌∷◌, ◌++◌, refl, sym, subst}
 use mir.Val.{Val}
 use base.Logic.{SProp, ent, emp, id⊢}

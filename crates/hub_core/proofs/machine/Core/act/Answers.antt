@@ -23,7 +23,7 @@ pub returns-in-Cast : goal.returns-in-Cast
 returns-in-Cast c = told_or c.args.step (action.Cast c.in-Cast.end c.in-Cast.ports c.in-Cast.body) _ _ _ c.in-Cast.is refl c.begin_cast.ensures (same_content _ _) (λ o p. took_where _ _ c.args.self.now _ _ p.1 (λ f s. p.0 ∙ cast_fits c.in-Cast.end c.in-Cast.ports s) (λ f. cast_changes c.in-Cast.end c.in-Cast.ports c.in-Cast.body _))
 
 pub returns-in-Part : goal.returns-in-Part
-returns-in-Part c = told c.args.step (action.Part c.in-Part.end) _ _ _ c.in-Part.is (part_took c.in-Part.end c.args.step.memory_refused _ _ _ c.leave_roster.ensures.0 c.leave_roster.ensures.1 c.leave_roster.ensures.2)
+returns-in-Part c = told c.args.step (action.Part c.in-Part.end) _ _ _ c.in-Part.is (part_took c.in-Part.end c.args.step.memory_refused _ _ _ c.take_member_out_of_roster.ensures.0 c.take_member_out_of_roster.ensures.1 c.take_member_out_of_roster.ensures.2)
 
 pub returns-in-Leave : goal.returns-in-Leave
 returns-in-Leave c = told c.args.step (action.Leave c.in-Leave.sender) _ _ _ c.in-Leave.is (took_where _ _ c.args.self.now _ _ c.let_poster_leave_queue.ensures.1 (λ f s. c.let_poster_leave_queue.ensures.0 ∙ ap (λ g. leave_answer g c.in-Leave.sender) (seen_is s)) (λ f. leave_changes c.in-Leave.sender _))
@@ -38,7 +38,7 @@ pub returns-in-Worker : goal.returns-in-Worker
 returns-in-Worker c = told_or c.args.step (action.Worker c.in-Worker.agent) _ _ _ c.in-Worker.is refl c.make_queue-in-Worker.ensures (same_content _ _) (λ o p. took_by _ _ c.args.self.now _ _ (p.1 ∙ worker_core c.in-Worker.agent c.args.self.now o) refl (λ f s. p.0 ∙ queue_answered Worker c.in-Worker.agent _ s) (λ f. worker_changes c.in-Worker.agent _))
 
 pub returns-in-Line : goal.returns-in-Line
-returns-in-Line c = told c.args.step (action.Line c.in-Line.end c.in-Line.agent) _ _ _ c.in-Line.is (took_by _ _ c.args.self.now _ _ c.hold_free_line.ensures.1 refl (λ f s. c.hold_free_line.ensures.0 ∙ line_fits c.in-Line.end c.in-Line.agent s) (λ f. line_changes c.in-Line.end c.in-Line.agent _))
+returns-in-Line c = told c.args.step (action.Line c.in-Line.end c.in-Line.agent) _ _ _ c.in-Line.is (took_by _ _ c.args.self.now _ _ c.hold_free_line_of_queue.ensures.1 refl (λ f s. c.hold_free_line_of_queue.ensures.0 ∙ line_fits c.in-Line.end c.in-Line.agent s) (λ f. line_changes c.in-Line.end c.in-Line.agent _))
 
 pub returns-in-Back : goal.returns-in-Back
 returns-in-Back c = told c.args.step (action.Back c.in-Back.sender) _ _ _ c.in-Back.is (took_by _ _ c.args.self.now _ _ c.release_line.ensures.1 refl (λ f s. c.release_line.ensures.0 ∙ ap (λ g. back_answer g c.in-Back.sender) (seen_is s)) (λ f. back_changes c.in-Back.sender _))
@@ -74,7 +74,7 @@ pub returns-in-Notice : goal.returns-in-Notice
 returns-in-Notice c = told_or c.args.step (action.Notice c.in-Notice.sender) _ _ _ c.in-Notice.is refl c.put_notice.ensures (same_content _ _) (λ o p. took_by _ _ c.args.self.now _ _ p.1 refl (λ f s. p.0 ∙ notice_fits c.in-Notice.sender _ s) (λ f. notice_changes c.in-Notice.sender _))
 
 pub returns-in-Sweep : goal.returns-in-Sweep
-returns-in-Sweep c = told_or c.args.step (action.Sweep c.in-Sweep.end) _ _ _ c.in-Sweep.is refl c.sweep.ensures (same_content _ _) (λ o p. took_by _ _ c.args.self.now _ _ p.1 refl (λ f s. subst (FitsSweep f c.in-Sweep.end) (sym p.0) (sweep_fits f c.in-Sweep.end _ s.shows.sound (s.shows.end c.in-Sweep.end.0))) (λ f s. sweep_changes c.in-Sweep.end _ s p.0))
+returns-in-Sweep c = told_or c.args.step (action.Sweep c.in-Sweep.end) _ _ _ c.in-Sweep.is refl c.sweep_closed_end.ensures (same_content _ _) (λ o p. took_by _ _ c.args.self.now _ _ p.1 refl (λ f s. subst (FitsSweep f c.in-Sweep.end) (sym p.0) (sweep_fits f c.in-Sweep.end _ s.shows.sound (s.shows.end c.in-Sweep.end.0))) (λ f s. sweep_changes c.in-Sweep.end _ s p.0))
 
 pub returns-in-See : goal.returns-in-See
 returns-in-See c = told_or c.args.step (action.See c.in-See.agent) _ _ _ c.in-See.is refl c.stop_agent_if_requested.ensures (same_content _ _) (λ o p. took_by _ _ c.args.self.now _ _ p.1 refl (λ f s. p.0 ∙ see_fits c.in-See.agent s) (λ f. see_changes c.in-See.agent _))

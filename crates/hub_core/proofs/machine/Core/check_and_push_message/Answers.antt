@@ -11,5 +11,5 @@ returns-in-Err c = (
   sym (subst (λ ports. core_after c.args.self.now c.in-Err.refusal (action.Push c.args.sender ports c.args.body) ≡ c.args.self.now) c.as_slice.ensures c.in-Err.ensures.rest),
 )
 
-pub returns-in_ok-put_with_ports-in-Ok : goal.returns-in_ok-put_with_ports-in-Ok
-returns-in_ok-put_with_ports-in-Ok c = (c.in-Ok.ensures.answer ∙ ap (λ ports. push_answer (may_put c.args.self.now.ends c.args.sender) (line_of c.args.self.now.ends c.args.sender).put (seen c.args.self.now) c.args.sender ports c.args.body c.args.memory_refused) c.as_slice.ensures, search rules)
+pub returns-in_ok-append_envelope_with_ports-in-Ok : goal.returns-in_ok-append_envelope_with_ports-in-Ok
+returns-in_ok-append_envelope_with_ports-in-Ok c = (c.in-Ok.ensures.answer ∙ ap (λ ports. push_answer (may_put c.args.self.now.ends c.args.sender) (line_of c.args.self.now.ends c.args.sender).put (seen c.args.self.now) c.args.sender ports c.args.body c.args.memory_refused) c.as_slice.ensures, search rules)

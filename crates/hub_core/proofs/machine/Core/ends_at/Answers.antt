@@ -12,7 +12,7 @@ loop-number-preserved c =
     let at : slice_get ends n ≡ Some c.end-item.result = ap (λ xs. slice_get xs n) (sym same) ∙ slice_get_read c.deref-end-items.result.now (length c.deref-end-items.result.now) n c.end-item.result refl c.loop-number-test.true c.end-item.is in
     let is_at : Option End → Bool = λ o. is_with c.args.agent (end_now o).place || is_arrived c.args.agent (end_now o).place in
     let found : is_at (slice_get ends n) ≡ c.is_with_or_arrived_at_agent.result = ap is_at at ∙ sym c.is_with_or_arrived_at_agent.ensures in
-    c.in_ok-add_end_if.ensures
+    c.in_ok-push_end_if.ensures
     ∙ ap (λ es. es ++ cond c.is_with_or_arrived_at_agent.result (record { 0 = n } ∷ []) []) c.loop-number.invariant
     ∙ ap (λ b. ends_below (λ x. is_at (slice_get ends x)) n ++ cond b (record { 0 = n } ∷ []) []) (sym found)
     ∙ ap (ends_below (λ x. is_at (slice_get ends x))) (sym next_one)

@@ -18,27 +18,27 @@ returns-in-Err-clause-err c =
           inr (answer_of-not_json c.args.text.now unread ∙ ap Err (sym w.result-is))
     ]
 
-pub returns-then-not-has_whole_numbers-clause-err : goal.returns-then-not-has_whole_numbers-clause-err
-returns-then-not-has_whole_numbers-clause-err c =
-    let float = from_not_false (has_float (view c.in-Ok.value)) _ c.has_whole_numbers.ensures c.if-not-has_whole_numbers.true in
+pub returns-then-not-json_value_has_whole_numbers-clause-err : goal.returns-then-not-json_value_has_whole_numbers-clause-err
+returns-then-not-json_value_has_whole_numbers-clause-err c =
+    let float = from_not_false (has_float (view c.in-Ok.value)) _ c.json_value_has_whole_numbers.ensures c.if-not-json_value_has_whole_numbers.true in
     inr (answer_of-not_whole c.args.text.now (view c.in-Ok.value) c.in-Ok.ensures.ok float)
 
-pub returns-then-not-has_whole_numbers-clause-cases : goal.returns-then-not-has_whole_numbers-clause-cases
-returns-then-not-has_whole_numbers-clause-cases c =
-    let float = from_not_false (has_float (view c.in-Ok.value)) _ c.has_whole_numbers.ensures c.if-not-has_whole_numbers.true in
+pub returns-then-not-json_value_has_whole_numbers-clause-cases : goal.returns-then-not-json_value_has_whole_numbers-clause-cases
+returns-then-not-json_value_has_whole_numbers-clause-cases c =
+    let float = from_not_false (has_float (view c.in-Ok.value)) _ c.json_value_has_whole_numbers.ensures c.if-not-json_value_has_whole_numbers.true in
     IsAnswerTo-equal c.args.text.now _ (answer_of-not_whole c.args.text.now (view c.in-Ok.value) c.in-Ok.ensures.ok float)
 
-pub returns-then-not-nests_within-clause-err : goal.returns-then-not-nests_within-clause-err
-returns-then-not-nests_within-clause-err c =
+pub returns-then-not-json_value_nests_within-clause-err : goal.returns-then-not-json_value_nests_within-clause-err
+returns-then-not-json_value_nests_within-clause-err c =
     let d = view c.in-Ok.value in
-    let whole = from_not_true (has_float d) _ c.has_whole_numbers.ensures c.if-not-has_whole_numbers.false in
+    let whole = from_not_true (has_float d) _ c.json_value_has_whole_numbers.ensures c.if-not-json_value_has_whole_numbers.false in
     let deep : MAX_NESTING < depth d = grind arith in
     inr (answer_of-too_deep c.args.text.now d c.in-Ok.ensures.ok whole deep)
 
-pub returns-then-not-nests_within-clause-cases : goal.returns-then-not-nests_within-clause-cases
-returns-then-not-nests_within-clause-cases c =
+pub returns-then-not-json_value_nests_within-clause-cases : goal.returns-then-not-json_value_nests_within-clause-cases
+returns-then-not-json_value_nests_within-clause-cases c =
     let d = view c.in-Ok.value in
-    let whole = from_not_true (has_float d) _ c.has_whole_numbers.ensures c.if-not-has_whole_numbers.false in
+    let whole = from_not_true (has_float d) _ c.json_value_has_whole_numbers.ensures c.if-not-json_value_has_whole_numbers.false in
     let deep : MAX_NESTING < depth d = grind arith in
     IsAnswerTo-equal c.args.text.now _ (answer_of-too_deep c.args.text.now d c.in-Ok.ensures.ok whole deep)
 
@@ -48,7 +48,7 @@ returns-in_default-clause-memory c = λ _. read-nonempty c.args.text.now (view c
 pub returns-then-len-gt-MAX_BODY_BYTES-clause-err : goal.returns-then-len-gt-MAX_BODY_BYTES-clause-err
 returns-then-len-gt-MAX_BODY_BYTES-clause-err c =
     let d = view c.in-Ok.value in
-    let whole = from_not_true (has_float d) _ c.has_whole_numbers.ensures c.if-not-has_whole_numbers.false in
+    let whole = from_not_true (has_float d) _ c.json_value_has_whole_numbers.ensures c.if-not-json_value_has_whole_numbers.false in
     let nested : depth d ≤ MAX_NESTING = grind arith in
     let long : MAX_BODY_BYTES < length (compact_text d) = grind (arith, ap length (c.in-Ok-to_string.ensures.text whole)) in
     inr (answer_of-too_long c.args.text.now d c.in-Ok.ensures.ok whole nested long)
@@ -56,7 +56,7 @@ returns-then-len-gt-MAX_BODY_BYTES-clause-err c =
 pub returns-then-len-gt-MAX_BODY_BYTES-clause-cases : goal.returns-then-len-gt-MAX_BODY_BYTES-clause-cases
 returns-then-len-gt-MAX_BODY_BYTES-clause-cases c =
     let d = view c.in-Ok.value in
-    let whole = from_not_true (has_float d) _ c.has_whole_numbers.ensures c.if-not-has_whole_numbers.false in
+    let whole = from_not_true (has_float d) _ c.json_value_has_whole_numbers.ensures c.if-not-json_value_has_whole_numbers.false in
     let nested : depth d ≤ MAX_NESTING = grind arith in
     let long : MAX_BODY_BYTES < length (compact_text d) = grind (arith, ap length (c.in-Ok-to_string.ensures.text whole)) in
     IsAnswerTo-equal c.args.text.now _ (answer_of-too_long c.args.text.now d c.in-Ok.ensures.ok whole nested long)
@@ -64,7 +64,7 @@ returns-then-len-gt-MAX_BODY_BYTES-clause-cases c =
 pub invariant_of-result : goal.invariant_of-result
 invariant_of-result c =
     let d = view c.in-Ok.value in
-    let whole = from_not_true (has_float d) _ c.has_whole_numbers.ensures c.if-not-has_whole_numbers.false in
+    let whole = from_not_true (has_float d) _ c.json_value_has_whole_numbers.ensures c.if-not-json_value_has_whole_numbers.false in
     let nested : depth d ≤ MAX_NESTING = grind arith in
     let text = c.in-Ok-to_string.ensures.text whole in
     let short : length (compact_text d) ≤ MAX_BODY_BYTES = grind (arith, ap length text) in
@@ -73,7 +73,7 @@ invariant_of-result c =
 pub returns-clause-ok : goal.returns-clause-ok
 returns-clause-ok c =
     let d = view c.in-Ok.value in
-    let whole = from_not_true (has_float d) _ c.has_whole_numbers.ensures c.if-not-has_whole_numbers.false in
+    let whole = from_not_true (has_float d) _ c.json_value_has_whole_numbers.ensures c.if-not-json_value_has_whole_numbers.false in
     let nested : depth d ≤ MAX_NESTING = grind arith in
     let text = c.in-Ok-to_string.ensures.text whole in
     let short : length (compact_text d) ≤ MAX_BODY_BYTES = grind (arith, ap length text) in

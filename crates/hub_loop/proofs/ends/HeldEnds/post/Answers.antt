@@ -14,6 +14,6 @@ invariant_of-self-2 g c =
     let was : get old.held c.in_ok-key.key ≡ Some held = search rules in
     record {
       room = old.room;
-      reached = same-end old.held old.ready c.in_ok-key.key held c.post.new.self was
-          (posted-end (λ answer. answer_with answer c.post.new.parcel c.post.new.closings) c.args.agent (carried_body c.args.parcel.now) c.args.parcel.now.ports.items held c.post.new.self c.post.result c.post.ensures.posted c.post.ensures.same) old.reached;
+      reached = same-end old.held old.ready c.in_ok-key.key held c.post_over_port_or_line.new.self was
+          (posted-end (λ answer. answer_with answer c.post_over_port_or_line.new.parcel c.post_over_port_or_line.new.closings) c.args.agent (carried_body c.args.parcel.now) c.args.parcel.now.ports.items held c.post_over_port_or_line.new.self c.post_over_port_or_line.result c.post_over_port_or_line.ensures.posted c.post_over_port_or_line.ensures.same) old.reached;
     }

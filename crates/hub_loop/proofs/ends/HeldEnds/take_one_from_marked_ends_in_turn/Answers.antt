@@ -9,11 +9,11 @@ returns-in-Nothing-clause-served g c =
     let old = c.args.self.now in
     let mid = c.mark_rung_ends.new.self in
     let looks = c.mark_rung_ends.ensures.found in
-    let then = c.take_in_range.new.self in
+    let then = c.take_from_range.new.self in
     let found : Gathered old.ready mid looks.0 = record { keeps = c.mark_rung_ends.ensures.keeps; listed = c.mark_rung_ends.ensures.listed; finds = looks.2 } in
-    let first = subst (HasWalked Marked old.next c.capacity-high.result (looked old mid looks.0 found) then c.args.steps.now c.take_in_range.new.steps c.args.was) c.in-Nothing.is c.take_in_range.ensures.walked in
-    marked-behind c.capacity-high.result old then c.take_in_range-in-Nothing.new.self mid c.args.listener.now c.mark_rung_ends.new.listener looks.0 c.args.steps.now c.take_in_range.new.steps c.take_in_range-in-Nothing.new.steps c.args.was c.in-Nothing.busy c.take_in_range-in-Nothing.result
-    looks.1 found (omega arith) c.capacity-high.ensures.value first c.take_in_range-in-Nothing.ensures.walked
+    let first = subst (HasWalked Marked old.next c.capacity-high.result (looked old mid looks.0 found) then c.args.steps.now c.take_from_range.new.steps c.args.was) c.in-Nothing.is c.take_from_range.ensures.walked in
+    marked-behind c.capacity-high.result old then c.take_from_range-in-Nothing.new.self mid c.args.listener.now c.mark_rung_ends.new.listener looks.0 c.args.steps.now c.take_from_range.new.steps c.take_from_range-in-Nothing.new.steps c.args.was c.in-Nothing.busy c.take_from_range-in-Nothing.result
+    looks.1 found (omega arith) c.capacity-high.ensures.value first c.take_from_range-in-Nothing.ensures.walked
 
 pub returns-in_default-clause-served : goal.returns-in_default-clause-served
 returns-in_default-clause-served g c =
@@ -21,8 +21,8 @@ returns-in_default-clause-served g c =
     let mid = c.mark_rung_ends.new.self in
     let looks = c.mark_rung_ends.ensures.found in
     let found : Gathered old.ready mid looks.0 = record { keeps = c.mark_rung_ends.ensures.keeps; listed = c.mark_rung_ends.ensures.listed; finds = looks.2 } in
-    marked-ahead c.capacity-high.result old c.take_in_range.new.self mid c.args.listener.now c.mark_rung_ends.new.listener looks.0 c.args.steps.now c.take_in_range.new.steps c.args.was c.take_in_range.result
-    looks.1 found c.take_in_range.ensures.walked c.in_default.not-Nothing
+    marked-ahead c.capacity-high.result old c.take_from_range.new.self mid c.args.listener.now c.mark_rung_ends.new.listener looks.0 c.args.steps.now c.take_from_range.new.steps c.args.was c.take_from_range.result
+    looks.1 found c.take_from_range.ensures.walked c.in_default.not-Nothing
 
 pub invariant_of-self : goal.invariant_of-self
 invariant_of-self g c =

@@ -13,10 +13,10 @@ returns-in-Ok-clause-adopted g c =
     let p = c.unwrap-arrived.result in
     let q = c.in-Ok.port in
     let same = c.reserve_and_clone_bell.ensures.same in
-    (p, search rules, inl (q, c.in-Ok.ensures, holds-after c.args.self.now.ends.held c.reserve_and_clone_bell.new.self.ends.held c.hold_in_reserved_room.new.self.held (Port q) same.held c.hold_in_reserved_room.ensures.held, same.closed, search rules))
+    (p, search rules, inl (q, c.in-Ok.ensures, holds-after c.args.self.now.ends.held c.reserve_and_clone_bell.new.self.ends.held c.hold_assuming_room.new.self.held (Port q) same.held c.hold_assuming_room.ensures.held, same.closed, search rules))
 
 pub returns-in-Ok-clause-marks : goal.returns-in-Ok-clause-marks
-returns-in-Ok-clause-marks g c = kept_after c.reserve_and_clone_bell.ensures.marks c.hold_in_reserved_room.ensures.marks
+returns-in-Ok-clause-marks g c = kept_after c.reserve_and_clone_bell.ensures.marks c.hold_assuming_room.ensures.marks
 
 pub returns-in-Err-OutOfMemory-default-clause-adopted : goal.returns-in-Err-OutOfMemory-default-clause-adopted
 returns-in-Err-OutOfMemory-default-clause-adopted g c = (search rules, c.reserve_and_clone_bell.ensures.same, search rules)

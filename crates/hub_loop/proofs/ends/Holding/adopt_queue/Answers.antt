@@ -11,10 +11,10 @@ returns-in-Ok-adopt_for_loop-clause-ok g c =
     let same = c.reserve_and_clone_bell.ensures.same in (
       queue,
       c.in-Ok-adopt_for_loop.ensures,
-      holds-after c.args.self.now.ends.held c.reserve_and_clone_bell.new.self.ends.held c.hold_in_reserved_room.new.self.held (held_queue queue) same.held
-          (subst (HoldsMore c.reserve_and_clone_bell.new.self.ends.held c.hold_in_reserved_room.new.self.held) c.from.ensures c.hold_in_reserved_room.ensures.held),
+      holds-after c.args.self.now.ends.held c.reserve_and_clone_bell.new.self.ends.held c.hold_assuming_room.new.self.held (held_queue queue) same.held
+          (subst (HoldsMore c.reserve_and_clone_bell.new.self.ends.held c.hold_assuming_room.new.self.held) c.from.ensures c.hold_assuming_room.ensures.held),
       same.closed,
     )
 
 pub returns-in-Ok-adopt_for_loop-clause-marks : goal.returns-in-Ok-adopt_for_loop-clause-marks
-returns-in-Ok-adopt_for_loop-clause-marks g c = kept_after c.reserve_and_clone_bell.ensures.marks c.hold_in_reserved_room.ensures.marks
+returns-in-Ok-adopt_for_loop-clause-marks g c = kept_after c.reserve_and_clone_bell.ensures.marks c.hold_assuming_room.ensures.marks

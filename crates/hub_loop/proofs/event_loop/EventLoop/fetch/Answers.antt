@@ -34,5 +34,5 @@ returns-in-Err-clause-kept g c =
     let new = c.push_reserved.new.self.items in
     let some = c.in-Some.ensures in
     subst (λ l. KeepsFetched c.args.end l.fetched new) c.self.view_is
-    (fetched-kept c.in-Some.queue c.in-Err.queue c.self.inside.fetched.items c.reserve.new.self.items c.take_queue_handed_over.new.fetched.items new c.args.end
+    (fetched-kept c.in-Some.queue c.in-Err.queue c.self.inside.fetched.items c.reserve.new.self.items c.take_or_fetch_queue.new.fetched.items new c.args.end
     c.reserve.ensures.items some.queue some.taken c.in-Err.ensures.back c.push_reserved.ensures.items)

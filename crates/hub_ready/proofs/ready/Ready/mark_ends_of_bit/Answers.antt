@@ -6,9 +6,9 @@ use Rattle.hub_ready.proofs.ready.Ready.mark_ends_of_bit.Goals as goal
 pub loop-row-preserved : goal.loop-row-preserved
 loop-row-preserved c =
     let kept = c.loop-row.invariant in
-    let did = c.mark_key_of_end_number.ensures in
+    let did = c.mark_end_if_listed.ensures in
     let row = c.loop-row.row in
-    let listed : c.mark_key_of_end_number.new.self.listed.items ≡ c.loop-row.self.listed.items = ap (λ l. l.items) did.listed in
+    let listed : c.mark_end_if_listed.new.self.listed.items ≡ c.loop-row.self.listed.items = ap (λ l. l.items) did.listed in
     record {
       listed = did.listed ∙ kept.listed;
       keeps = keeps-both _ c.loop-row.self.marks _ kept.keeps did.keeps;

@@ -18,5 +18,5 @@ returns c =
     let acted : acting k a (action.Post port body c.in_ok-transfer.transfer) ≡ known c.push_action.new.self =
     ap (λ (e : EndId). acting k a (action.Post e body c.in_ok-transfer.transfer)) (sym c.id_of_named_end-port.ensures) ∙ cc (c.in_ok-push_action.ensures) in
     posted k c.args.port.now c.args.body c.args.transfer.now a c.in_ok-source.source ports body c.in_ok-source.ensures c.in_ok-ports.ensures.says c.in_ok-body.ensures
-    ∙ ap (λ (x : Known). Ok x) (transferred k (known c.push_action.new.self) (known c.mark_all_released_by_agent.new.self) a (λ ends. action.Post port body ends) ports c.as_slice.result.now c.as_slice-2.result.now c.in_ok-transfer.transfer
-    c.as_slice.ensures.value c.as_slice-2.ensures.value listed acted c.mark_all_released_by_agent.ensures)
+    ∙ ap (λ (x : Known). Ok x) (transferred k (known c.push_action.new.self) (known c.mark_ports_released_by_agent.new.self) a (λ ends. action.Post port body ends) ports c.as_slice.result.now c.as_slice-2.result.now c.in_ok-transfer.transfer
+    c.as_slice.ensures.value c.as_slice-2.ensures.value listed acted c.mark_ports_released_by_agent.ensures)

@@ -29,9 +29,9 @@ returns-then-has_memory g c =
     let contents = g.W.Write.contents in
     let held = subst (λ bytes. IsHeld bytes c.in-Ok.held) c.deref.ensures.value c.in-Ok.ensures.held in
     record {
-      written = runs_to_end c.args.input.items c.in-Ok.held (contents c.args.writer.now.writer) (contents c.run_rest_and_write.new.writer.writer) c.run_rest_and_write.result held c.if-has_memory.true c.in_default.ensures.ok c.run_rest_and_write.ensures.written;
-      failures = c.run_rest_and_write.ensures.failures;
-      flushed = c.run_rest_and_write.ensures.flushed;
+      written = runs_to_end c.args.input.items c.in-Ok.held (contents c.args.writer.now.writer) (contents c.run_remaining_step_lines_and_write_all.new.writer.writer) c.run_remaining_step_lines_and_write_all.result held c.if-has_memory.true c.in_default.ensures.ok c.run_remaining_step_lines_and_write_all.ensures.written;
+      failures = c.run_remaining_step_lines_and_write_all.ensures.failures;
+      flushed = c.run_remaining_step_lines_and_write_all.ensures.flushed;
     }
 
 pub returns : goal.returns

@@ -1,5 +1,0 @@
-use Rattle.std.proofs.Common.{inr, rules}
-use Rattle.hub_agent.proofs.agent.Agent.borrow_line_from_directory.Goals as goal
-
-pub returns-in_ok-hold-in-Ok-clause-held : goal.returns-in_ok-hold-in-Ok-clause-held
-returns-in_ok-hold-in-Ok-clause-held g c = inr (c.in-Ok.line, search rules, c.in_ok-hold-in-Ok.ensures.held)

@@ -1,6 +1,0 @@
-use Rattle.hub_fan.specs.Places.{Shuts}
-use Rattle.hub_fan.proofs.Below.{DoneBelow}
-use Rattle.hub_fan.proofs.places.shut_all.Given as goal
-
-abbrev pub invariant-loop-line : goal.invariant-loop-line
-invariant-loop-line g l = DoneBelow Shuts l.line-index l.fn.lines l.lines

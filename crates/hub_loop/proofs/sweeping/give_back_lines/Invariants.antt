@@ -1,5 +1,0 @@
-use Rattle.std.specs.Prelude.{vec_len}
-use Rattle.hub_loop.proofs.sweeping.give_back_lines.Given as goal
-
-abbrev pub decreases-loop-poster : goal.decreases-loop-poster
-decreases-loop-poster g l = vec_len l.lines
